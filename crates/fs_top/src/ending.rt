@@ -1,0 +1,132 @@
+//! How a run ends: its status, and the line that is printed last.
+
+ghost use Rattle.std.specs.Prelude.{◌≡◌, IfOk};
+ghost use Rattle.fs_top.specs.Endings.{status_of, text_of, kind_text};
+
+use smb_base::{NoMemory, Text};
+use std::alloc::Global;
+
+/// What a server says of itself in its NEGOTIATE reply (MS-SMB2 2.2.4).
+#[derive(Clone, Copy, Debug, PartialEq, Eq)]
+pub struct Greeting {
+    /// What it can do.
+    pub caps: u32,
+    /// The greatest payload of a query or a change of information, in bytes.
+    pub transact: u32,
+    /// The greatest read, in bytes.
+    pub read: u32,
+    /// The greatest write, in bytes.
+    pub write: u32,
+    /// The server's own id.
+    pub guid: [u8; 16],
+}
+
+/// What is wrong with a frame: the first of these that stands.
+#[derive(Clone, Copy, Debug, PartialEq, Eq)]
+pub enum Kind {
+    /// Its first byte is not zero, or it is too long.
+    Length,
+    /// One of its messages has no header.
+    Head,
+    /// One of its messages names no place where the next one can begin.
+    Chain,
+    /// One of its messages answers no request that is unanswered.
+    Stranger,
+    /// One of its messages is no reply to its request.
+    Body,
+}
+
+/// How a run ends.
+#[derive(Clone, Copy, Debug, PartialEq, Eq)]
+pub enum Ending {
+    /// The server answered in the dialect that was offered: status 0.
+    Greeted(Greeting),
+    /// The words are none of the program's: status 1.
+    Words,
+    /// Memory ran out: status 3.
+    Memory,
+    /// The server chose another dialect, or refused with 0: status 4.
+    Dialect(u16),
+    /// The first frame is not a NEGOTIATE reply: status 5.
+    Frame(Kind),
+    /// The connection could not be made: status 6.
+    Connects,
+    /// The connection was lost, or nothing came for too long: status 6.
+    Cuts,
+}
+
+impl Ending {
+    /// The exit status of the program.
+    pub fn status(&self) -> u8
+        ensures { result ≡ status_of self.now }
+    {
+        match self {
+            Ending::Greeted(_) => 0,
+            Ending::Words => 1,
+            Ending::Memory => 3,
+            Ending::Dialect(_) => 4,
+            Ending::Frame(_) => 5,
+            Ending::Connects => 6,
+            Ending::Cuts => 6,
+        }
+    }
+
+    /// The line that is printed. It fails only for want of memory.
+    pub fn text(&self, alloc: Global) -> Result<Text, NoMemory>
+        ensures { IfOk result (λ text. text ≡ text_of self.now) }
+    {
+        match self {
+            Ending::Greeted(greeting) => greeting_text(alloc, greeting),
+            Ending::Words => Text::of(alloc, "fault 1 words\n"),
+            Ending::Memory => Text::of(alloc, MEMORY_TEXT),
+            Ending::Dialect(dialect) => dialect_text(alloc, *dialect),
+            Ending::Frame(kind) => frame_text(alloc, *kind),
+            Ending::Connects => Text::of(alloc, "fault 6 connects 1\n"),
+            Ending::Cuts => Text::of(alloc, "fault 6 cuts 1\n"),
+        }
+    }
+}
+
+/// The line of want of memory, which takes none.
+pub const MEMORY_TEXT: &str = "fault 3 memory\n";
+
+/// The line of a server that answered.
+fn greeting_text(alloc: Global, greeting: &Greeting) -> Result<Text, NoMemory>
+    ensures { IfOk result (λ text. text ≡ text_of (Ending.Greeted greeting.now)) }
+{
+    let guid = hex::encode(alloc, greeting.guid)?;
+    let text = format!(
+        in alloc;
+        "smb 0x0210 caps {} transact {} read {} write {} guid {}\n",
+        greeting.caps,
+        greeting.transact,
+        greeting.read,
+        greeting.write,
+        guid
+    )?;
+    Ok(Text::of_string(text))
+}
+
+/// The line of a server that did not take the dialect, with the dialect in four upper-case hex digits.
+fn dialect_text(alloc: Global, dialect: u16) -> Result<Text, NoMemory>
+    ensures { IfOk result (λ text. text ≡ text_of (Ending.Dialect dialect)) }
+{
+    let digits = hex::encode_upper(alloc, [(dialect / 256) as u8, (dialect % 256) as u8])?;
+    let text = format!(in alloc; "fault 4 mount dialect 0x{digits}\n")?;
+    Ok(Text::of_string(text))
+}
+
+/// The line of a bad frame.
+fn frame_text(alloc: Global, kind: Kind) -> Result<Text, NoMemory>
+    ensures { IfOk result (λ text. text ≡ text_of (Ending.Frame kind)) }
+{
+    let word = match kind {
+        Kind::Length => "length",
+        Kind::Head => "head",
+        Kind::Chain => "chain",
+        Kind::Stranger => "stranger",
+        Kind::Body => "body",
+    };
+    let text = format!(in alloc; "fault 5 frame 1 {word}\n")?;
+    Ok(Text::of_string(text))
+}

@@ -1,0 +1,4 @@
+pub mod Negotiate
+pub mod Session
+pub mod Tree
+pub mod Empty

@@ -1,0 +1,12 @@
+//! What stands round every message: the header that begins it, and the frames that carry messages on a stream of bytes.
+#![tactic(auto)]
+
+mod first;
+mod frames;
+mod head;
+mod request;
+
+pub use first::{FrameFault, MAX_FRAME, first_frame, frame_lacks, frame_start};
+pub use frames::Frames;
+pub use head::{Head, HeadFault, Route, read_head, write_head};
+pub use request::Request;
