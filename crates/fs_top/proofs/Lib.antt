@@ -1,2 +1,6 @@
+pub mod CameLaws
+pub mod Partial
 pub mod Ports
 pub mod Printed
+pub mod Waiting
+pub mod Parts

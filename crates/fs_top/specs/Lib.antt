@@ -1,3 +1,6 @@
+pub mod Came
 pub mod Endings
 pub mod Printing
+pub mod Tale
+pub mod Verdict
 pub mod Words

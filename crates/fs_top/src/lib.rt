@@ -2,5 +2,7 @@
 #![tactic(auto)]
 
 mod ending;
+mod listen;
 mod print;
+mod verdict;
 mod words;

@@ -1,10 +1,10 @@
 -- What the layers above need of the first frame of some bytes: bytes that come later change nothing of it.
-use Rattle.std.proofs.Common.{◌≡◌, ◌∙◌, refl, sym, ap, ℕ, ◌+◌, ◌*◌, ◌/◌, ◌%◌, ◌<◌, ◌≤◌, List, [], ◌∷◌, ◌++◌, length, take, drop, slice_index, get_or, arith, length-append, length-drop}
-use Rattle.std.proofs.lemmas.List.{take_at, drop_at, get_or_append_left, drop-append-le, take-append-le}
+use Rattle.std.proofs.Common.{◌≡◌, ◌∙◌, refl, sym, ap, ℕ, zero, suc, cond, nat_lt, ◌+◌, ◌-◌, ◌*◌, ◌/◌, ◌%◌, ◌<◌, ◌≤◌, List, [], ◌∷◌, ◌++◌, length, take, drop, slice_index, get_or, arith, length-append, length-drop}
+use Rattle.std.proofs.lemmas.List.{take_at, drop_at, get_or_append_left, drop-append-le, take-append-le, take_all, drop_all, length-take-le}
 use Rattle.smb_head.specs.declared.first.TheConstants.{MAX_FRAME}
 use Rattle.smb_head.specs.declared.first.FrameFault.{FrameFault}
 use Rattle.smb_head.specs.declared.first.FrameFault.TheVariants.{NotZero, TooLarge, NoMemory}
-use Rattle.smb_head.specs.Stream.{First, Partial, Whole, Bad, prefix, frame_length, first_of, IsFault}
+use Rattle.smb_head.specs.Stream.{First, Partial, Whole, Bad, prefix, frame_length, first_of, lack, IsFault}
 
 -- a fault of the bytes is never want of memory
 pub bad-memory : (bytes : List ℕ) → first_of bytes ≡ Bad NoMemory → ⊥
@@ -96,3 +96,54 @@ first_of-bad_more (x ∷ xs) ys fault h =
 pub first_of-nil : first_of [] ≡ Partial
 unfolding first_of
 first_of-nil = refl
+
+-- less than a frame, of which the four bytes are there
+pub record IsPart (bytes : List ℕ) : Type 0 where
+  pub zero_first : slice_index bytes 0 ≡ 0
+  pub small : frame_length bytes ≤ MAX_FRAME
+  pub short : length bytes < 4 + frame_length bytes
+
+part-is : (bytes : List ℕ) → 4 ≤ length bytes → first_of bytes ≡ Partial → IsPart bytes
+unfolding first_of
+part-is bytes four h = record {
+  zero_first = grind arith;
+  small = grind arith;
+  short = grind arith;
+}
+
+pub lack-part : (bytes : List ℕ) → 4 ≤ length bytes → lack Partial bytes ≡ 4 + frame_length bytes - length bytes
+lack-part bytes four = grind arith
+
+-- so many bytes more make it a whole frame, whatever they are
+pub first_of-completed : (bytes more : List ℕ) → first_of bytes ≡ Partial → 4 ≤ length bytes → length more ≡ 4 + frame_length bytes - length bytes
+    → first_of (bytes ++ more) ≡ Whole (drop 4 (bytes ++ more)) []
+first_of-completed bytes more h four so_many =
+    let is = part-is bytes four h in
+    let first : get_or (bytes ++ more) 0 0 ≡ get_or bytes 0 0 = get_or_append_left bytes more 0 0 (omega arith) in
+    let same : frame_length (bytes ++ more) ≡ frame_length bytes = same_length bytes more four in
+    let long : length (bytes ++ more) ≡ length bytes + length more = length-append bytes more in
+    let after = length-drop 4 (bytes ++ more) in
+    whole-of (bytes ++ more) (drop 4 (bytes ++ more)) [] record {
+      zero_first = first ∙ is.zero_first;
+      four = omega arith;
+      small = omega arith;
+      fits = omega arith;
+      its_message = sym (take_all (frame_length (bytes ++ more)) (drop 4 (bytes ++ more)) (omega arith));
+      its_rest = sym (drop_all (4 + frame_length (bytes ++ more)) (bytes ++ more) (omega arith));
+    }
+
+-- what is sent of a frame before its last byte is less than a frame
+pub first_of-begun : (n : ℕ) (message : List ℕ) (k : ℕ) → n ≤ MAX_FRAME → length message ≡ n → k < 4 + n → first_of (take k (prefix n ++ message)) ≡ Partial
+unfolding first_of
+first_of-begun n message zero fits is before = refl
+first_of-begun n message (suc zero) fits is before = refl
+first_of-begun n message (suc (suc zero)) fits is before = refl
+first_of-begun n message (suc (suc (suc zero))) fits is before = refl
+first_of-begun n message (suc (suc (suc (suc k)))) fits is before =
+    let e : n / 65536 % 256 * 65536 + (n / 256 % 256 * 256 + n % 256) ≡ n = prefix-length n (omega arith) in
+    let long : length (take k message) ≡ k = length-take-le k message (omega arith) in
+    rw e (begun (length (take k message)) n (omega arith) fits)
+  where
+  begun : (a n : ℕ) → a < n → n ≤ MAX_FRAME
+      → cond (nat_lt (suc (suc (suc (suc a)))) 4) Partial (cond (nat_lt MAX_FRAME n) (Bad (TooLarge n)) (cond (nat_lt (suc (suc (suc (suc a)))) (4 + n)) Partial (Whole (take n (take k message)) (drop (4 + n) (take (suc (suc (suc (suc k)))) (prefix n ++ message)))))) ≡ Partial
+  begun a n less small = grind arith

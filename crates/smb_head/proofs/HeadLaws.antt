@@ -40,7 +40,7 @@ flags-read : (head : Head) (rest : List ℕ) → head.flags.0 < 2 ^ 32 → numbe
 unfolding number_at bytes_of header
 flags-read head rest fits = number_at-bytes_of 4 head.flags.0 [] fits
 
-next-read : (head : Head) (rest : List ℕ) → head.next < 2 ^ 32 → number_at 4 20 (header head ++ rest) ≡ head.next
+pub next-read : (head : Head) (rest : List ℕ) → head.next < 2 ^ 32 → number_at 4 20 (header head ++ rest) ≡ head.next
 unfolding number_at bytes_of header
 next-read head rest fits = number_at-bytes_of 4 head.next [] fits
 

@@ -1,6 +1,6 @@
 //! The first frame of some bytes.
 
-ghost use Rattle.std.specs.Prelude.{◌≡◌, ◌+◌, ◌^◌, ◌<◌, ◌≤◌, ◌++◌, ℕ, List, length, drop, IfOk, IfErr, IfSome, IfNone};
+ghost use Rattle.std.specs.Prelude.{◌≡◌, ◌+◌, ◌^◌, ◌<◌, ◌≤◌, ◌++◌, [], ℕ, List, length, take, drop, IfOk, IfErr, IfSome, IfNone};
 ghost use Rattle.smb_head.specs.Stream.{First, Whole, Partial, Bad, first_of, frame_length, lack, lack_of, prefix};
 
 use thiserror::Error;
@@ -66,7 +66,11 @@ fn length_of(bytes: &[u8]) -> usize
 /// How many bytes are missing until [`first_frame`] has a frame or a fault to give: 4 less those held while there are fewer than 4,
 /// and from then on the rest of the frame. 0 where it has one.
 pub fn frame_lacks(bytes: &[u8]) -> usize
-    ensures { result ≡ lack_of bytes.now }
+    ensures value { result ≡ lack_of bytes.now }
+
+    // From four bytes on, any so many bytes more make it one whole frame.
+    ensures completes { first_of bytes.now ≡ Partial → 4 ≤ length bytes.now → (more : List ℕ) → length more ≡ result
+        → first_of (bytes.now ++ more) ≡ Whole (drop 4 (bytes.now ++ more)) [] }
 {
     match first_frame(bytes) {
         Ok(None) => missing(bytes),
@@ -89,6 +93,9 @@ fn missing(bytes: &[u8]) -> usize
 pub fn frame_start(len: usize) -> [u8; 4]
     requires { len ≤ MAX_FRAME }
     ensures value { result ≡ prefix len }
+
+    // A message with these four in front is less than a frame until its last byte is there.
+    ensures begun { (message : List ℕ) (k : ℕ) → length message ≡ len → k < 4 + len → first_of (take k (prefix len ++ message)) ≡ Partial }
 
     // A message with these four in front is taken off a stream again, whatever follows it.
     ensures taken { (message rest : List ℕ) → length message ≡ len → first_of (prefix len ++ (message ++ rest)) ≡ Whole message rest }

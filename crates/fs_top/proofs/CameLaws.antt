@@ -1,0 +1,49 @@
+-- Events at a link, one call after another.
+use Rattle.std.proofs.Common.{◌≡◌, ℕ, Bool, true, false, not, List, [], ◌∷◌, ◌++◌, Option, Some, None, Result, Ok, Err, refl, ap, sym, ◌∙◌, append_assoc, rules}
+use Rattle.std.proofs.lemmas.List.{append-nil}
+use Rattle.smb_link.specs.Count.{counted}
+use Rattle.smb_link.specs.Story.{told, receive_events, is_closed, is_quiet}
+use Rattle.smb_link.specs.declared.event.Event.{Event}
+use Rattle.smb_link.specs.declared.event.Event.TheVariants as event
+use Rattle.smb_link.specs.declared.faults.Got as answer
+use Rattle.smb_link.specs.declared.faults.Got.TheVariants as got
+use Rattle.fs_top.specs.Came.{Seen, Came, counted_all, is_refusal, is_cut, is_silence}
+
+told-nothing : (story : Option (List Event)) → told story [] ≡ story
+told-nothing None = refl
+told-nothing (Some so_far) = ap Some (append-nil so_far)
+
+told-told : (story : Option (List Event)) (xs ys : List Event) → told (told story xs) ys ≡ told story (xs ++ ys)
+told-told None xs ys = refl
+told-told (Some so_far) xs ys = ap Some (append_assoc so_far xs ys)
+
+counted_all-append : (n : ℕ) (such : Event → Bool) (xs ys : List Event) → counted_all (counted_all n such xs) such ys ≡ counted_all n such (xs ++ ys)
+counted_all-append n such [] ys = refl
+counted_all-append n such (x ∷ xs) ys = counted_all-append (counted n (such x)) such xs ys
+
+-- nothing came
+pub came_none : (seen : Seen) → Came [] seen seen
+came_none seen = record {
+  story = sym (told-nothing seen.story);
+  connect_faults = refl;
+  cuts = refl;
+  quiets = refl;
+}
+
+-- these events came, and then those
+pub came_then : (xs ys : List Event) (a b c : Seen) → Came xs a b → Came ys b c → Came (xs ++ ys) a c
+came_then xs ys a b c first then = record {
+  story = then.story ∙ ap (λ (s : Option (List Event)). told s ys) first.story ∙ told-told a.story xs ys;
+  connect_faults = then.connect_faults ∙ ap (λ (n : ℕ). counted_all n is_refusal ys) first.connect_faults ∙ counted_all-append a.connect_faults is_refusal xs ys;
+  cuts = then.cuts ∙ ap (λ (n : ℕ). counted_all n is_cut ys) first.cuts ∙ counted_all-append a.cuts is_cut xs ys;
+  quiets = then.quiets ∙ ap (λ (n : ℕ). counted_all n is_silence ys) first.quiets ∙ counted_all-append a.quiets is_silence xs ys;
+}
+
+-- what a receive says of the link is that its events came
+pub came_receive : (old new : Seen) (buffer : List ℕ) (result : answer.Got) → new.story ≡ told old.story (receive_events buffer result)
+    → new.connect_faults ≡ old.connect_faults → new.cuts ≡ counted old.cuts (is_closed result) → new.quiets ≡ counted old.quiets (is_quiet result)
+    → Came (receive_events buffer result) old new
+came_receive old new buffer (got.Bytes n) story faults cuts quiets = record { story = story; connect_faults = faults; cuts = cuts; quiets = quiets }
+came_receive old new buffer got.Quiet story faults cuts quiets = record { story = story; connect_faults = faults; cuts = cuts; quiets = quiets }
+came_receive old new buffer got.Closed story faults cuts quiets = record { story = story; connect_faults = faults; cuts = cuts; quiets = quiets }
+came_receive old new buffer got.NoMemory story faults cuts quiets = record { story = story; connect_faults = faults; cuts = cuts; quiets = quiets }

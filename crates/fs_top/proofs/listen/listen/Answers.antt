@@ -1,0 +1,81 @@
+use Rattle.std.proofs.Common.{◌≡◌, ◌≢◌, ◌<◌, ◌≤◌, ◌+◌, ◌-◌, ◌∙◌, ℕ, List, [], ◌∷◌, ◌++◌, Some, None, inl, inr, take, drop, length, length-append, length-take, refl, sym, ap, subst, arith, rules}
+use Rattle.smb_link.specs.declared.event.Event.TheVariants.{Got}
+use Rattle.std.proofs.lemmas.List.{take-append-le, length-take-le}
+use Rattle.smb_head.specs.Stream.{first_of, Partial}
+use Rattle.fs_top.specs.declared.ending.Ending.{Ending}
+use Rattle.fs_top.specs.Came.{seen_by, Came}
+use Rattle.fs_top.specs.Tale.{FirstEnds, Heard}
+use Rattle.fs_top.proofs.CameLaws.{came_receive}
+use Rattle.fs_top.proofs.Partial.{first_of-nothing, partial_short, partial_lacks}
+use Rattle.fs_top.proofs.Waiting.{Waiting, waiting_none, waiting_few, waiting_undecided, waiting_got, waiting_silence, heard_got, heard_silence, heard_cut, heard_memory}
+use Rattle.fs_top.proofs.listen.listen.Goals as goal
+
+pub loop-n-init : goal.loop-n-init
+loop-n-init g c = rw c.new-frames.ensures (waiting_none _ first_of-nothing)
+
+pub receive-requires : goal.receive-requires
+receive-requires g c =
+    let undecided = waiting_undecided _ _ _ _ c.loop-n.invariant in
+    let some = partial_lacks c.loop-n.frames undecided in
+    omega (arith, c.min-room.ensures, c.lacks.ensures, length-take c.min-room.result c.loop-n.buf, c.loop-n.auto)
+
+pub returns-in-Some : goal.returns-in-Some
+returns-in-Some g c =
+    let w = c.loop-n.invariant in
+    let e = c.in-Bytes.ensures in
+    let seen = seen_by g.L.Link.story g.L.Link.connect_faults g.L.Link.cuts g.L.Link.quiets in
+    let kept : length c.receive.new.buf ≡ length (take c.min-room.result c.loop-n.buf) = c.receive.auto.buf in
+    let piece : take c.in-Bytes.n (c.receive.new.buf ++ drop c.min-room.result c.loop-n.buf) ≡ take c.in-Bytes.n c.receive.new.buf = take-append-le c.in-Bytes.n c.receive.new.buf (drop c.min-room.result c.loop-n.buf) (omega (arith, e.bytes.1)) in
+    let came : Came (Got (take c.in-Bytes.n c.receive.new.buf) ∷ []) (seen c.loop-n.link) (seen c.receive.new.self) = record { story = e.story; connect_faults = e.faults; cuts = e.cuts; quiets = e.quiets } in
+    elim c.in-Some.ensures.ends [
+      | inl memory ↦ subst (λ (x : Ending). Heard (seen c.args.link.now) (seen c.receive.new.self) x) (sym memory) (heard_memory _ _ _ _ _ (Got (take c.in-Bytes.n c.receive.new.buf) ∷ []) w came)
+      | inr ends ↦ heard_got _ _ _ _ _ (take c.in-Bytes.n c.receive.new.buf) c.in-Some.ending w came (subst (λ (p : List ℕ). FirstEnds (first_of (c.loop-n.frames ++ p)) c.in-Some.ending) piece ends)
+    ]
+
+pub loop-n-smaller-in_default : goal.loop-n-smaller-in_default
+loop-n-smaller-in_default g c =
+    let e = c.in-Bytes.ensures in
+    let went = c.in_default.ensures.goes_on in
+    let kept : length c.receive.new.buf ≡ length (take c.min-room.result c.loop-n.buf) = c.receive.auto.buf in
+    let piece : take c.in-Bytes.n (c.receive.new.buf ++ drop c.min-room.result c.loop-n.buf) ≡ take c.in-Bytes.n c.receive.new.buf = take-append-le c.in-Bytes.n c.receive.new.buf (drop c.min-room.result c.loop-n.buf) (omega (arith, e.bytes.1)) in
+    let held : c.take_in.new.frames ≡ c.loop-n.frames ++ take c.in-Bytes.n c.receive.new.buf = went.0 ∙ ap (λ (p : List ℕ). c.loop-n.frames ++ p) piece in
+    let longer : length c.take_in.new.frames ≡ length c.loop-n.frames + c.in-Bytes.n = ap length held ∙ length-append c.loop-n.frames (take c.in-Bytes.n c.receive.new.buf) ∙ ap (λ (n : ℕ). length c.loop-n.frames + n) (length-take-le c.in-Bytes.n c.receive.new.buf (omega (arith, e.bytes.1))) in
+    let short = partial_short c.take_in.new.frames (ap first_of went.0 ∙ went.1) in
+    let few = waiting_few _ _ _ _ c.loop-n.invariant in
+    omega (arith, e.bytes.0)
+
+pub loop-n-preserved-in_default : goal.loop-n-preserved-in_default
+loop-n-preserved-in_default g c =
+    let e = c.in-Bytes.ensures in
+    let went = c.in_default.ensures.goes_on in
+    let seen = seen_by g.L.Link.story g.L.Link.connect_faults g.L.Link.cuts g.L.Link.quiets in
+    let kept : length c.receive.new.buf ≡ length (take c.min-room.result c.loop-n.buf) = c.receive.auto.buf in
+    let piece : take c.in-Bytes.n (c.receive.new.buf ++ drop c.min-room.result c.loop-n.buf) ≡ take c.in-Bytes.n c.receive.new.buf = take-append-le c.in-Bytes.n c.receive.new.buf (drop c.min-room.result c.loop-n.buf) (omega (arith, e.bytes.1)) in
+    let held : c.take_in.new.frames ≡ c.loop-n.frames ++ take c.in-Bytes.n c.receive.new.buf = went.0 ∙ ap (λ (p : List ℕ). c.loop-n.frames ++ p) piece in
+    let came : Came (Got (take c.in-Bytes.n c.receive.new.buf) ∷ []) (seen c.loop-n.link) (seen c.receive.new.self) = record { story = e.story; connect_faults = e.faults; cuts = e.cuts; quiets = e.quiets } in
+    let undecided = subst (λ (p : List ℕ). first_of (c.loop-n.frames ++ p) ≡ Partial) piece went.1 in
+    subst (λ (h : List ℕ). Waiting (seen c.args.link.now) (seen c.receive.new.self) h 0) (sym held) (waiting_got _ _ _ _ _ (take c.in-Bytes.n c.receive.new.buf) c.loop-n.invariant came undecided)
+
+pub overflow_add-quiets : goal.overflow_add-quiets
+overflow_add-quiets g c = let few = waiting_few _ _ _ _ c.loop-n.invariant in omega arith
+
+pub returns-then-quiets-eq-PATIENCE : goal.returns-then-quiets-eq-PATIENCE
+returns-then-quiets-eq-PATIENCE g c =
+    let w = c.loop-n.invariant in
+    let e = c.in-Quiet.ensures in
+    heard_silence _ _ _ _ _ w (record { story = e.story; connect_faults = e.faults; cuts = e.cuts; quiets = e.quiets }) (c.if-quiets-eq-PATIENCE.true)
+
+pub loop-n-smaller : goal.loop-n-smaller
+loop-n-smaller g c = let few = waiting_few _ _ _ _ c.loop-n.invariant in omega arith
+
+pub loop-n-preserved : goal.loop-n-preserved
+loop-n-preserved g c =
+    let w = c.loop-n.invariant in
+    let e = c.in-Quiet.ensures in
+    let few = waiting_few _ _ _ _ w in
+    waiting_silence _ _ _ _ _ w (record { story = e.story; connect_faults = e.faults; cuts = e.cuts; quiets = e.quiets }) (let not : c.loop-n.quiets + 1 ≢ 300 = c.if-quiets-eq-PATIENCE.false in omega arith)
+
+pub returns-in-Closed : goal.returns-in-Closed
+returns-in-Closed g c =
+    let e = c.in-Closed.ensures in
+    heard_cut _ _ _ _ _ c.loop-n.invariant (record { story = e.story; connect_faults = e.faults; cuts = e.cuts; quiets = e.quiets })

@@ -1,0 +1,14 @@
+use Rattle.std.proofs.Common.{◌+◌, ◌-◌, ◌*◌, length}
+use Rattle.fs_top.specs.Came.{seen_by}
+use Rattle.fs_top.proofs.Waiting.{Waiting}
+use Rattle.fs_top.proofs.listen.listen.Given as goal
+
+-- what came decides nothing, and the bytes of it are held
+abbrev pub invariant-loop-n : goal.invariant-loop-n
+invariant-loop-n g l =
+    let seen = seen_by g.L.Link.story g.L.Link.connect_faults g.L.Link.cuts g.L.Link.quiets in
+    Waiting (seen l.fn.link) (seen l.link) l.frames l.quiets
+
+-- bytes of the first frame, of which it has 1,114,116 at most, and then waits in vain
+abbrev pub decreases-loop-n : goal.decreases-loop-n
+decreases-loop-n g l = (1114117 - length l.frames) * 301 + (300 - l.quiets)
