@@ -2,9 +2,11 @@
 use Rattle.std.proofs.Common.{◌≡◌, ℕ, Bool, true, false, not, List, [], ◌∷◌, ◌++◌, Option, Some, None, Result, Ok, Err, refl, ap, sym, ◌∙◌, append_assoc, rules}
 use Rattle.std.proofs.lemmas.List.{append-nil}
 use Rattle.smb_link.specs.Count.{counted}
-use Rattle.smb_link.specs.Story.{told, receive_events, is_closed, is_quiet}
+use Rattle.smb_link.specs.Story.{told, is_failed, connect_cuts, connect_events, send_events, receive_events, is_closed, is_quiet}
 use Rattle.smb_link.specs.declared.event.Event.{Event}
 use Rattle.smb_link.specs.declared.event.Event.TheVariants as event
+use Rattle.smb_link.specs.declared.faults.LinkFail.{LinkFail}
+use Rattle.smb_link.specs.declared.faults.LinkFail.TheVariants as fail
 use Rattle.smb_link.specs.declared.faults.Got as answer
 use Rattle.smb_link.specs.declared.faults.Got.TheVariants as got
 use Rattle.fs_top.specs.Came.{Seen, Came, counted_all, is_refusal, is_cut, is_silence}
@@ -47,3 +49,23 @@ came_receive old new buffer (got.Bytes n) story faults cuts quiets = record { st
 came_receive old new buffer got.Quiet story faults cuts quiets = record { story = story; connect_faults = faults; cuts = cuts; quiets = quiets }
 came_receive old new buffer got.Closed story faults cuts quiets = record { story = story; connect_faults = faults; cuts = cuts; quiets = quiets }
 came_receive old new buffer got.NoMemory story faults cuts quiets = record { story = story; connect_faults = faults; cuts = cuts; quiets = quiets }
+
+-- what a connect says of the link is that its events came
+pub came_connect : (old new : Seen) (stood stands : Bool) (result : Result (Unit {0}) LinkFail) → new.story ≡ told old.story (connect_events stood stands result)
+    → new.connect_faults ≡ counted old.connect_faults (is_failed result) → new.cuts ≡ counted old.cuts (connect_cuts stood stands result) → new.quiets ≡ old.quiets
+    → Came (connect_events stood stands result) old new
+came_connect old new true stands (Ok x) story faults cuts quiets = record { story = story; connect_faults = faults; cuts = cuts; quiets = quiets }
+came_connect old new false stands (Ok x) story faults cuts quiets = record { story = story; connect_faults = faults; cuts = cuts; quiets = quiets }
+came_connect old new true stands (Err fail.Failed) story faults cuts quiets = record { story = story; connect_faults = faults; cuts = cuts; quiets = quiets }
+came_connect old new false stands (Err fail.Failed) story faults cuts quiets = record { story = story; connect_faults = faults; cuts = cuts; quiets = quiets }
+came_connect old new true true (Err fail.NoMemory) story faults cuts quiets = record { story = story; connect_faults = faults; cuts = cuts; quiets = quiets }
+came_connect old new true false (Err fail.NoMemory) story faults cuts quiets = record { story = story; connect_faults = faults; cuts = cuts; quiets = quiets }
+came_connect old new false stands (Err fail.NoMemory) story faults cuts quiets = record { story = story; connect_faults = faults; cuts = cuts; quiets = quiets }
+
+-- what a send says of the link is that its events came
+pub came_send : (old new : Seen) (frame : List ℕ) (result : Result (Unit {0}) LinkFail) → new.story ≡ told old.story (send_events frame result)
+    → new.connect_faults ≡ old.connect_faults → new.cuts ≡ counted old.cuts (is_failed result) → new.quiets ≡ old.quiets
+    → Came (send_events frame result) old new
+came_send old new frame (Ok x) story faults cuts quiets = record { story = story; connect_faults = faults; cuts = cuts; quiets = quiets }
+came_send old new frame (Err fail.Failed) story faults cuts quiets = record { story = story; connect_faults = faults; cuts = cuts; quiets = quiets }
+came_send old new frame (Err fail.NoMemory) story faults cuts quiets = record { story = story; connect_faults = faults; cuts = cuts; quiets = quiets }

@@ -4,3 +4,5 @@ pub mod Ports
 pub mod Printed
 pub mod Waiting
 pub mod Parts
+pub mod Asked
+pub mod Caused

@@ -9,7 +9,7 @@ use Rattle.smb_body_a.specs.Negotiate.{IsNegotiateReply}
 use Rattle.smb_body_c.specs.declared.error.ErrorReply.{ErrorReply}
 use Rattle.smb_body_c.specs.Error.{IsErrorReply}
 use Rattle.fs_top.specs.declared.ending.Ending.{Ending}
-use Rattle.fs_top.specs.declared.ending.Ending.TheVariants.{Greeted, Dialect, Frame}
+use Rattle.fs_top.specs.declared.ending.Ending.TheVariants.{Greeted, Words, Memory, Dialect, Frame, Connects, Cuts}
 use Rattle.fs_top.specs.declared.ending.Greeting.{Greeting}
 use Rattle.fs_top.specs.declared.ending.Kind as kinds
 use Rattle.fs_top.specs.declared.ending.Kind.TheVariants as kind
@@ -68,3 +68,13 @@ PartEnds (Ok head) (Then part rest) ending = ReplyEnds head part (Some rest) end
 
 abbrev pub MessageEnds : List ℕ → Ending → Type 0
 MessageEnds message ending = PartEnds (head_of message) (step_of message) ending
+
+-- the endings that a wait for the first frame may have
+abbrev pub EndsWait : Ending → Type 0
+EndsWait Words = ⊥
+EndsWait Connects = ⊥
+EndsWait (Greeted greeting) = Unit {0}
+EndsWait (Dialect dialect) = Unit {0}
+EndsWait (Frame kind) = Unit {0}
+EndsWait Cuts = Unit {0}
+EndsWait Memory = Unit {0}

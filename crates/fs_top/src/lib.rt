@@ -3,6 +3,12 @@
 
 mod ending;
 mod listen;
+mod ping;
 mod print;
+mod request;
+mod top;
 mod verdict;
 mod words;
+
+pub use ending::{Ending, Greeting, Kind};
+pub use top::smbfs;

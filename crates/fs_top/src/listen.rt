@@ -5,6 +5,7 @@ ghost use Rattle.smb_head.specs.Stream.{first_of, Partial};
 ghost use Rattle.smb_link.specs.declared.event.Event.{Event};
 ghost use Rattle.fs_top.specs.Came.{seen_by, Came};
 ghost use Rattle.fs_top.specs.Tale.{FirstEnds, Heard};
+ghost use Rattle.fs_top.specs.Verdict.{EndsWait};
 
 use crate::ending::{Ending, Kind};
 use crate::verdict::judge;
@@ -17,7 +18,8 @@ const PATIENCE: u16 = 300;
 
 /// Waits for the first frame and says what it makes of the ping.
 pub fn listen<L: Link>(alloc: Global, link: &mut L) -> Ending
-    ensures { Heard (seen_by L.story L.connect_faults L.cuts L.quiets link.old) (seen_by L.story L.connect_faults L.cuts L.quiets link.new) result }
+    ensures heard { Heard (seen_by L.story L.connect_faults L.cuts L.quiets link.old) (seen_by L.story L.connect_faults L.cuts L.quiets link.new) result }
+    ensures ends_wait { EndsWait result }
 {
     let mut frames = Frames::new(alloc);
     let mut buf = [0; 4096];
@@ -47,6 +49,7 @@ pub fn listen<L: Link>(alloc: Global, link: &mut L) -> Ending
 fn take_in(frames: &mut Frames, piece: &[u8]) -> Option<Ending>
     ensures goes_on { IfNone result ((frames.new ≡ frames.old ++ piece.now) × (first_of (frames.old ++ piece.now) ≡ Partial)) }
     ensures ends { IfSome result (λ ending. ending ≡ Ending.Memory ⊎ FirstEnds (first_of (frames.old ++ piece.now)) ending) }
+    ensures ends_wait { IfSome result EndsWait }
 {
     if frames.feed(piece).is_err() {
         return Some(Ending::Memory);

@@ -4,7 +4,7 @@ ghost use Rattle.std.specs.Prelude.{◌≡◌, ◌&&◌, ◌==◌, ◌≤◌, Li
 ghost use Rattle.std.specs.Option.{option_copied};
 ghost use Rattle.smb_head.specs.Header.{head_of};
 ghost use Rattle.smb_chain.specs.Parts.{step_of};
-ghost use Rattle.fs_top.specs.Verdict.{MessageEnds, ReplyEnds, GreetingEnds, RefusalEnds, is_reply, second_kind, unless_more, answer_of};
+ghost use Rattle.fs_top.specs.Verdict.{MessageEnds, ReplyEnds, GreetingEnds, RefusalEnds, is_reply, second_kind, unless_more, answer_of, EndsWait};
 
 use crate::ending::{Ending, Greeting, Kind};
 use bitflags::Flags;
@@ -20,7 +20,8 @@ pub const DIALECT: u16 = 0x0210;
 
 /// The ending that the messages of the first frame have.
 pub fn judge(message: &[u8]) -> Ending
-    ensures { MessageEnds message.now result }
+    ensures verdict { MessageEnds message.now result }
+    ensures ends_wait { EndsWait result }
 {
     let head = match read_head(message) {
         Ok(head) => head,
@@ -35,7 +36,8 @@ pub fn judge(message: &[u8]) -> Ending
 /// The ending that the first message has, with this head and this behind it.
 fn judge_reply(head: &Head, part: &[u8], rest: Option<&[u8]>) -> Ending
     requires { 64 ≤ length part.now }
-    ensures { ReplyEnds head.now part.now (option_copied rest.entry) result }
+    ensures verdict { ReplyEnds head.now part.now (option_copied rest.entry) result }
+    ensures ends_wait { EndsWait result }
 {
     if head.mid != Mid(0) {
         return Ending::Frame(Kind::Stranger);
@@ -53,7 +55,8 @@ fn judge_reply(head: &Head, part: &[u8], rest: Option<&[u8]>) -> Ending
 /// The ending that a reply of success has.
 fn judge_greeting(part: &[u8], rest: Option<&[u8]>) -> Ending
     requires { 64 ≤ length part.now }
-    ensures { GreetingEnds part.now (option_copied rest.entry) result }
+    ensures verdict { GreetingEnds part.now (option_copied rest.entry) result }
+    ensures ends_wait { EndsWait result }
 {
     match read_negotiate_reply(part) {
         Ok(reply) => last_unless(rest, answer(&reply)),
@@ -64,7 +67,8 @@ fn judge_greeting(part: &[u8], rest: Option<&[u8]>) -> Ending
 /// The ending that a reply of another status has.
 fn judge_refusal(part: &[u8], rest: Option<&[u8]>) -> Ending
     requires { 64 ≤ length part.now }
-    ensures { RefusalEnds part.now (option_copied rest.entry) result }
+    ensures verdict { RefusalEnds part.now (option_copied rest.entry) result }
+    ensures ends_wait { EndsWait result }
 {
     match read_error_reply(part) {
         Ok(_) => last_unless(rest, Ending::Dialect(0)),
@@ -74,7 +78,8 @@ fn judge_refusal(part: &[u8], rest: Option<&[u8]>) -> Ending
 
 /// The ending by the dialect of the reply.
 fn answer(reply: &NegotiateReply<'_>) -> Ending
-    ensures { result ≡ answer_of reply.now }
+    ensures value { result ≡ answer_of reply.now }
+    ensures ends_wait { EndsWait result }
 {
     if reply.dialect != DIALECT {
         return Ending::Dialect(reply.dialect);
@@ -90,7 +95,9 @@ fn answer(reply: &NegotiateReply<'_>) -> Ending
 
 /// This ending, unless another message follows.
 fn last_unless(rest: Option<&[u8]>, ending: Ending) -> Ending
-    ensures { result ≡ unless_more (option_copied rest.entry) ending }
+    requires { EndsWait ending }
+    ensures value { result ≡ unless_more (option_copied rest.entry) ending }
+    ensures ends_wait { EndsWait result }
 {
     match rest {
         None => ending,

@@ -19,8 +19,8 @@ receive-requires g c =
     let some = partial_lacks c.loop-n.frames undecided in
     omega (arith, c.min-room.ensures, c.lacks.ensures, length-take c.min-room.result c.loop-n.buf, c.loop-n.auto)
 
-pub returns-in-Some : goal.returns-in-Some
-returns-in-Some g c =
+pub returns-in-Some-clause-heard : goal.returns-in-Some-clause-heard
+returns-in-Some-clause-heard g c =
     let w = c.loop-n.invariant in
     let e = c.in-Bytes.ensures in
     let seen = seen_by g.L.Link.story g.L.Link.connect_faults g.L.Link.cuts g.L.Link.quiets in
@@ -59,8 +59,8 @@ loop-n-preserved-in_default g c =
 pub overflow_add-quiets : goal.overflow_add-quiets
 overflow_add-quiets g c = let few = waiting_few _ _ _ _ c.loop-n.invariant in omega arith
 
-pub returns-then-quiets-eq-PATIENCE : goal.returns-then-quiets-eq-PATIENCE
-returns-then-quiets-eq-PATIENCE g c =
+pub returns-then-quiets-eq-PATIENCE-clause-heard : goal.returns-then-quiets-eq-PATIENCE-clause-heard
+returns-then-quiets-eq-PATIENCE-clause-heard g c =
     let w = c.loop-n.invariant in
     let e = c.in-Quiet.ensures in
     heard_silence _ _ _ _ _ w (record { story = e.story; connect_faults = e.faults; cuts = e.cuts; quiets = e.quiets }) (c.if-quiets-eq-PATIENCE.true)
@@ -75,7 +75,7 @@ loop-n-preserved g c =
     let few = waiting_few _ _ _ _ w in
     waiting_silence _ _ _ _ _ w (record { story = e.story; connect_faults = e.faults; cuts = e.cuts; quiets = e.quiets }) (let not : c.loop-n.quiets + 1 ≢ 300 = c.if-quiets-eq-PATIENCE.false in omega arith)
 
-pub returns-in-Closed : goal.returns-in-Closed
-returns-in-Closed g c =
+pub returns-in-Closed-clause-heard : goal.returns-in-Closed-clause-heard
+returns-in-Closed-clause-heard g c =
     let e = c.in-Closed.ensures in
     heard_cut _ _ _ _ _ c.loop-n.invariant (record { story = e.story; connect_faults = e.faults; cuts = e.cuts; quiets = e.quiets })

@@ -1,0 +1,29 @@
+use Rattle.std.proofs.Common.{Ok, Err, ◌∙◌, subst}
+use Rattle.smb_link.specs.Story.{send_events}
+use Rattle.smb_link.specs.declared.faults.LinkFail.{LinkFail}
+use Rattle.fs_top.specs.Came.{seen_by, Came}
+use Rattle.fs_top.proofs.Asked.{asked_heard, asked_cut}
+use Rattle.fs_top.proofs.CameLaws.{came_connect, came_send}
+use Rattle.fs_top.proofs.ping.ping.Goals as goal
+
+pub returns-in-Err-Failed-send : goal.returns-in-Err-Failed-send
+returns-in-Err-Failed-send g c =
+    let seen = seen_by g.L.Link.story g.L.Link.connect_faults g.L.Link.cuts g.L.Link.quiets in
+    let frame = c.as_slice.result.now in
+    let why = c.in-Err-Failed-send.field-0 in
+    let j = c.in-Ok-connect.ensures in
+    let s = c.in-Err-Failed-send.ensures in
+    let join = came_connect (seen c.args.link.now) (seen c.connect.new.self) (g.L.Link.stands c.args.link.now) (g.L.Link.stands c.connect.new.self) (Ok tt) j.story j.faults j.cuts j.quiets in
+    let send = came_send (seen c.connect.new.self) (seen c.send.new.self) frame (Err why) s.story s.faults s.cuts s.quiets in
+    let failed = subst (λ (f : LinkFail). Came (send_events frame (Err f)) (seen c.connect.new.self) (seen c.send.new.self)) c.in-Err-Failed-send.field-0-is send in
+    asked_cut (g.L.Link.stands c.args.link.now) c.args.seed frame (seen c.args.link.now) (seen c.connect.new.self) (seen c.send.new.self) (c.as_slice.ensures.value ∙ c.in-Ok.ensures) join failed
+
+pub returns : goal.returns
+returns g c =
+    let seen = seen_by g.L.Link.story g.L.Link.connect_faults g.L.Link.cuts g.L.Link.quiets in
+    let frame = c.as_slice.result.now in
+    let j = c.in-Ok-connect.ensures in
+    let s = c.in-Ok-send.ensures in
+    let join = came_connect (seen c.args.link.now) (seen c.connect.new.self) (g.L.Link.stands c.args.link.now) (g.L.Link.stands c.connect.new.self) (Ok tt) j.story j.faults j.cuts j.quiets in
+    let send = came_send (seen c.connect.new.self) (seen c.send.new.self) frame (Ok tt) s.story s.faults s.cuts s.quiets in
+    asked_heard (g.L.Link.stands c.args.link.now) c.args.seed frame (seen c.args.link.now) (seen c.connect.new.self) (seen c.send.new.self) (seen c.listen.new.link) c.listen.result (c.as_slice.ensures.value ∙ c.in-Ok.ensures) join send c.listen.ensures.heard c.listen.ensures.ends_wait

@@ -1,0 +1,7 @@
+use Rattle.fs_top.proofs.Caused.{ran_printed}
+use Rattle.fs_top.proofs.top.smbfs.Goals as goal
+
+pub returns-clause-ran : goal.returns-clause-ran
+returns-clause-ran g c =
+    let r = c.run-ending.ensures in
+    ran_printed _ _ _ _ _ _ _ _ r.0 c.run-ending.result r.1 r.2 c.finish.ensures
