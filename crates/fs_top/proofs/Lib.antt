@@ -6,3 +6,4 @@ pub mod Waiting
 pub mod Parts
 pub mod Asked
 pub mod Caused
+pub mod Once

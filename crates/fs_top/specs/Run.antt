@@ -50,10 +50,12 @@ Printed ending old new status =
     ((status ≡ status_of ending) × TookAll (text_of ending) old new)
     ⊎ ((status ≡ 8) × TookFront (text_of ending) old new)
 
--- a run of the program: these events came at the link, it ended so, for that cause unless memory ran out, and that was printed
+-- a run of the program: these events came at the link, it ended so, for that cause unless memory ran out, no other ending has a cause in
+-- them, and the ending was printed
 pub record Ran (words : List (List ℕ)) (stood : Bool) (seed : List ℕ) (link link' : Seen) (sink sink' : Held) (status : ℕ) : Type 0 where
   pub events : List Event
   pub came : Came events link link'
   pub ending : Ending
   pub cause : (ending ≡ Memory) ⊎ Causes words stood seed events ending
+  pub only : (other : Ending) → Causes words stood seed events other → (ending ≡ Memory) ⊎ (other ≡ ending)
   pub printed : Printed ending sink sink' status
