@@ -19,7 +19,7 @@ told-told : (story : Option (List Event)) (xs ys : List Event) → told (told st
 told-told None xs ys = refl
 told-told (Some so_far) xs ys = ap Some (append_assoc so_far xs ys)
 
-counted_all-append : (n : ℕ) (such : Event → Bool) (xs ys : List Event) → counted_all (counted_all n such xs) such ys ≡ counted_all n such (xs ++ ys)
+pub counted_all-append : (n : ℕ) (such : Event → Bool) (xs ys : List Event) → counted_all (counted_all n such xs) such ys ≡ counted_all n such (xs ++ ys)
 counted_all-append n such [] ys = refl
 counted_all-append n such (x ∷ xs) ys = counted_all-append (counted n (such x)) such xs ys
 

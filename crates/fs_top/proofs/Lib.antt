@@ -7,3 +7,4 @@ pub mod Parts
 pub mod Asked
 pub mod Caused
 pub mod Once
+pub mod ByCountsLaws

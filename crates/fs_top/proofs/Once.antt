@@ -119,14 +119,14 @@ not_asked stood seed events e x y =
     cc
 
 -- the causes of an ending, as one of three
-data Cause (words : List (List ℕ)) (stood : Bool) (seed : List ℕ) (events : List Event) (e : Ending) : Type 0 where
-  by_words : e ≡ ending.Words → (ArePing words → ⊥) → Cause words stood seed events e
+pub data Cause (words : List (List ℕ)) (stood : Bool) (seed : List ℕ) (events : List Event) (e : Ending) : Type 0 where
+  by_words : e ≡ ending.Words → (ArePing words → ⊥) → events ≡ [] → Cause words stood seed events e
   by_refusal : e ≡ ending.Connects → ArePing words → events ≡ opening stood ++ NotJoined ∷ [] → Cause words stood seed events e
   by_wait : ArePing words → AskedEnds stood seed events e → Cause words stood seed events e
 
-cause_of : (words : List (List ℕ)) (stood : Bool) (seed : List ℕ) (events : List Event) (e : Ending) → Causes words stood seed events e → Cause words stood seed events e
+pub cause_of : (words : List (List ℕ)) (stood : Bool) (seed : List ℕ) (events : List Event) (e : Ending) → Causes words stood seed events e → Cause words stood seed events e
 cause_of words stood seed events (ending.Greeted greeting) c = by_wait c.0 c.1
-cause_of words stood seed events ending.Words c = by_words refl c.0
+cause_of words stood seed events ending.Words c = by_words refl c.0 c.1
 cause_of words stood seed events ending.Memory c = absurd c
 cause_of words stood seed events (ending.Dialect dialect) c = by_wait c.0 c.1
 cause_of words stood seed events (ending.Frame k) c = by_wait c.0 c.1
@@ -134,13 +134,13 @@ cause_of words stood seed events ending.Connects c = by_refusal refl c.0 c.1
 cause_of words stood seed events ending.Cuts c = by_wait c.0 c.1
 
 cause_once : (words : List (List ℕ)) (stood : Bool) (seed : List ℕ) (events : List Event) (e f : Ending) → Cause words stood seed events e → Cause words stood seed events f → e ≡ f
-cause_once words stood seed events e f (by_words x never) (by_words y neither) = x ∙ sym y
-cause_once words stood seed events e f (by_words x never) (by_refusal y are is) = absurd (never are)
-cause_once words stood seed events e f (by_words x never) (by_wait are asked) = absurd (never are)
-cause_once words stood seed events e f (by_refusal x are is) (by_words y never) = absurd (never are)
+cause_once words stood seed events e f (by_words x never nothing) (by_words y neither too) = x ∙ sym y
+cause_once words stood seed events e f (by_words x never nothing) (by_refusal y are is) = absurd (never are)
+cause_once words stood seed events e f (by_words x never nothing) (by_wait are asked) = absurd (never are)
+cause_once words stood seed events e f (by_refusal x are is) (by_words y never nothing) = absurd (never are)
 cause_once words stood seed events e f (by_refusal x are is) (by_refusal y too same) = x ∙ sym y
 cause_once words stood seed events e f (by_refusal x are is) (by_wait too asked) = absurd (not_asked stood seed events f is asked)
-cause_once words stood seed events e f (by_wait are asked) (by_words y never) = absurd (never are)
+cause_once words stood seed events e f (by_wait are asked) (by_words y never nothing) = absurd (never are)
 cause_once words stood seed events e f (by_wait are asked) (by_refusal y too is) = absurd (not_asked stood seed events e is asked)
 cause_once words stood seed events e f (by_wait are asked) (by_wait too again) = asked_ends_once stood seed events e f asked again
 

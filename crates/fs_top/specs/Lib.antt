@@ -1,4 +1,5 @@
 pub mod Came
+pub mod Counts
 pub mod Endings
 pub mod Printing
 pub mod Request

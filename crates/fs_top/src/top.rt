@@ -1,9 +1,10 @@
 //! The top call.
 
-ghost use Rattle.std.specs.Prelude.{◌≡◌, ◌⊎◌, List, map, string_bytes};
+ghost use Rattle.std.specs.Prelude.{◌≡◌, ◌≢◌, ◌⊎◌, List, map, string_bytes};
 ghost use Rattle.smb_link.specs.declared.event.Event.{Event};
 ghost use Rattle.fs_top.specs.declared.ending.Ending.{Ending};
 ghost use Rattle.fs_top.specs.Came.{seen_by, Came};
+ghost use Rattle.fs_top.specs.Counts.{ByCounts};
 ghost use Rattle.fs_top.specs.Printing.{held_by, TookAll, TookFront};
 ghost use Rattle.fs_top.specs.Run.{Ran, Causes, Printed};
 
@@ -27,6 +28,9 @@ pub fn smbfs<S: Source, K: Sink, L: Link, C: Clock>(
     ensures ran { Ran (map string_bytes words.now.items) (L.stands link.old) seed
         (seen_by L.story L.connect_faults L.cuts L.quiets link.old) (seen_by L.story L.connect_faults L.cuts L.quiets link.new)
         (held_by K.written K.faults K.stalls out.old) (held_by K.written K.faults K.stalls out.new) result }
+    ensures counts { ByCounts (L.stands link.old)
+        (seen_by L.story L.connect_faults L.cuts L.quiets link.old) (seen_by L.story L.connect_faults L.cuts L.quiets link.new) result }
+    ensures never { (result ≢ 2) × (result ≢ 7) × (result ≢ 9) × (result ≢ 10) }
     ensures source { input.new ≡ input.old }
     ensures clock { clock.new ≡ clock.old }
 {
