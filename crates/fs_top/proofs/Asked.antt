@@ -31,8 +31,7 @@ pub asked_heard : (stood : Bool) (seed frame : List ℕ) (a b c d : Seen) (e : E
     → Heard c d e → EndsWait e → (events : List Event) × Came events a d × ((e ≡ ending.Memory) ⊎ PingEnds stood seed events e)
 asked_heard stood seed frame a b c d e is join send heard kind =
     let waited : List Event = heard.0 in
-    let events : List Event = (opening stood ++ Joined ∷ []) ++ ((Sent frame ∷ []) ++ waited) in
-    (
+    let events : List Event = (opening stood ++ Joined ∷ []) ++ ((Sent frame ∷ []) ++ waited) in (
       events,
       came_then (opening stood ++ Joined ∷ []) ((Sent frame ∷ []) ++ waited) a b d join (came_then (Sent frame ∷ []) waited b c d send heard.1),
       waited_ends stood seed waited events e (joined (opening stood) frame waited ∙ ap (λ (f : List ℕ). opening stood ++ Joined ∷ Sent f ∷ waited) is) kind heard.2,

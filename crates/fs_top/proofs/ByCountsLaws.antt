@@ -133,12 +133,12 @@ frame_kept k e is = rw is (λ six. omega arith)
 reply_kept : (head : Head) (part : List ℕ) (rest : Option (List ℕ)) (e : Ending) → ReplyEnds head part rest e → status_of e ≢ 6
 reply_kept head part rest e =
     of_either (head.mid.0 == 0)
-        (MatchBool (head.command == 0 && is_reply head) (MatchBool (head.status.0 == 0) (GreetingEnds part rest e) (RefusalEnds part rest e)) (e ≡ ending.Frame kind.Body))
-        (e ≡ ending.Frame kind.Stranger) (status_of e ≢ 6)
-        (of_either (head.command == 0 && is_reply head) (MatchBool (head.status.0 == 0) (GreetingEnds part rest e) (RefusalEnds part rest e)) (e ≡ ending.Frame kind.Body) (status_of e ≢ 6)
-            (of_either (head.status.0 == 0) (GreetingEnds part rest e) (RefusalEnds part rest e) (status_of e ≢ 6) (greeting_kept part rest e) (refusal_kept part rest e))
-            (frame_kept kind.Body e))
-        (frame_kept kind.Stranger e)
+    (MatchBool (head.command == 0 && is_reply head) (MatchBool (head.status.0 == 0) (GreetingEnds part rest e) (RefusalEnds part rest e)) (e ≡ ending.Frame kind.Body))
+    (e ≡ ending.Frame kind.Stranger) (status_of e ≢ 6)
+    (of_either (head.command == 0 && is_reply head) (MatchBool (head.status.0 == 0) (GreetingEnds part rest e) (RefusalEnds part rest e)) (e ≡ ending.Frame kind.Body) (status_of e ≢ 6)
+    (of_either (head.status.0 == 0) (GreetingEnds part rest e) (RefusalEnds part rest e) (status_of e ≢ 6) (greeting_kept part rest e) (refusal_kept part rest e))
+    (frame_kept kind.Body e))
+    (frame_kept kind.Stranger e)
 
 part_kept : (head : Result Head HeadFault) (step : Step) (e : Ending) → PartEnds head step e → status_of e ≢ 6
 part_kept (Err fault) step e x = frame_kept kind.Head e x

@@ -59,14 +59,14 @@ same_once k e f x y = x ∙ sym y
 reply_ends_once : (head : Head) (part : List ℕ) (rest : Option (List ℕ)) (e f : Ending) → ReplyEnds head part rest e → ReplyEnds head part rest f → e ≡ f
 reply_ends_once head part rest e f =
     chosen_once (head.mid.0 == 0)
-        (λ x. MatchBool (head.command == 0 && is_reply head) (MatchBool (head.status.0 == 0) (GreetingEnds part rest x) (RefusalEnds part rest x)) (x ≡ ending.Frame kind.Body))
-        (λ x. x ≡ ending.Frame kind.Stranger) e f
-        (chosen_once (head.command == 0 && is_reply head)
-            (λ x. MatchBool (head.status.0 == 0) (GreetingEnds part rest x) (RefusalEnds part rest x))
-            (λ x. x ≡ ending.Frame kind.Body) e f
-            (chosen_once (head.status.0 == 0) (GreetingEnds part rest) (RefusalEnds part rest) e f (greeting_ends_once part rest e f) (refusal_ends_once part rest e f))
-            (same_once (ending.Frame kind.Body) e f))
-        (same_once (ending.Frame kind.Stranger) e f)
+    (λ x. MatchBool (head.command == 0 && is_reply head) (MatchBool (head.status.0 == 0) (GreetingEnds part rest x) (RefusalEnds part rest x)) (x ≡ ending.Frame kind.Body))
+    (λ x. x ≡ ending.Frame kind.Stranger) e f
+    (chosen_once (head.command == 0 && is_reply head)
+    (λ x. MatchBool (head.status.0 == 0) (GreetingEnds part rest x) (RefusalEnds part rest x))
+    (λ x. x ≡ ending.Frame kind.Body) e f
+    (chosen_once (head.status.0 == 0) (GreetingEnds part rest) (RefusalEnds part rest) e f (greeting_ends_once part rest e f) (refusal_ends_once part rest e f))
+    (same_once (ending.Frame kind.Body) e f))
+    (same_once (ending.Frame kind.Stranger) e f)
 
 part_ends_once : (head : Result Head HeadFault) (step : Step) (e f : Ending) → PartEnds head step e → PartEnds head step f → e ≡ f
 part_ends_once (Err fault) step e f x y = x ∙ sym y

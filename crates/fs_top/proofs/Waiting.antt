@@ -134,12 +134,11 @@ heard_by events ending.Cuts w = w
 -- the event that ends the wait
 pub heard_last : (old mid new : Seen) (held : List ℕ) (quiets : ℕ) (last : Event) (e : Ending) → (w : Waiting old mid held quiets) → Came (last ∷ []) mid new
     → LastEnds w.heard last e → Heard old new e
-heard_last old mid new held quiets last e w came ends =
-    (
-      w.heard ++ last ∷ [],
-      came_then w.heard (last ∷ []) old mid new w.came came,
-      heard_by (w.heard ++ last ∷ []) e (record { heard = w.heard; last = last; events_are = refl; went_on = w.went_on; ends = ends }),
-    )
+heard_last old mid new held quiets last e w came ends = (
+  w.heard ++ last ∷ [],
+  came_then w.heard (last ∷ []) old mid new w.came came,
+  heard_by (w.heard ++ last ∷ []) e (record { heard = w.heard; last = last; events_are = refl; went_on = w.went_on; ends = ends }),
+)
 
 pub heard_got : (old mid new : Seen) (held : List ℕ) (quiets : ℕ) (bytes : List ℕ) (e : Ending) → Waiting old mid held quiets → Came (Got bytes ∷ []) mid new
     → FirstEnds (first_of (held ++ bytes)) e → Heard old new e

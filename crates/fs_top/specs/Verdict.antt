@@ -54,10 +54,10 @@ RefusalEnds part rest ending =
 abbrev pub ReplyEnds : Head → List ℕ → Option (List ℕ) → Ending → Type 0
 ReplyEnds head part rest ending =
     MatchBool (head.mid.0 == 0)
-        (MatchBool (head.command == 0 && is_reply head)
-            (MatchBool (head.status.0 == 0) (GreetingEnds part rest ending) (RefusalEnds part rest ending))
-            (ending ≡ Frame kind.Body))
-        (ending ≡ Frame kind.Stranger)
+    (MatchBool (head.command == 0 && is_reply head)
+    (MatchBool (head.status.0 == 0) (GreetingEnds part rest ending) (RefusalEnds part rest ending))
+    (ending ≡ Frame kind.Body))
+    (ending ≡ Frame kind.Stranger)
 
 -- the messages of the frame one after another, the first bad one deciding: its head, its place in the chain, what it answers, its body
 abbrev pub PartEnds : Result Head HeadFault → Step → Ending → Type 0

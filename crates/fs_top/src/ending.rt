@@ -95,14 +95,9 @@ fn greeting_text(alloc: Global, greeting: &Greeting) -> Result<Text, NoMemory>
     ensures { IfOk result (λ text. text ≡ text_of (Ending.Greeted greeting.now)) }
 {
     let guid = hex::encode(alloc, greeting.guid)?;
-    let text = format!(
-        in alloc;
+    let text = format!(in alloc;
         "smb 0x0210 caps {} transact {} read {} write {} guid {}\n",
-        greeting.caps,
-        greeting.transact,
-        greeting.read,
-        greeting.write,
-        guid
+        greeting.caps, greeting.transact, greeting.read, greeting.write, guid
     )?;
     Ok(Text::of_string(text))
 }

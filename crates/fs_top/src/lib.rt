@@ -6,6 +6,8 @@ mod listen;
 mod ping;
 mod print;
 mod request;
+#[cfg(test)]
+mod tests;
 mod top;
 mod verdict;
 mod words;

@@ -12,13 +12,7 @@ use smb_link::{Link, LinkFail};
 use std::alloc::Global;
 
 /// Connects once, sends the request and waits for the first frame.
-pub fn ping<L: Link>(
-    alloc: Global,
-    link: &mut L,
-    host: &str,
-    port: u16,
-    seed: [u8; 16],
-) -> Ending
+pub fn ping<L: Link>(alloc: Global, link: &mut L, host: &str, port: u16, seed: [u8; 16]) -> Ending
     ensures { (events : List Event)
         × Came events (seen_by L.story L.connect_faults L.cuts L.quiets link.old) (seen_by L.story L.connect_faults L.cuts L.quiets link.new)
         × ((result ≡ Ending.Memory) ⊎ PingEnds (L.stands link.old) seed events result) }

@@ -1,0 +1,173 @@
+"""`smbfs ping` against real peers: what it printed must be what the peer was told to say."""
+import shutil
+import socket
+import struct
+import subprocess
+import sys
+import tempfile
+import threading
+import time
+
+import peers
+
+PROGRAM = sys.argv[1]
+GUID = bytes(range(0xF0, 0x100))
+
+
+def message(magic=b"\xfeSMB", size=64, status=0, command=0, flags=1, nxt=0, mid=0, body=b""):
+    return (magic + struct.pack("<HHIHHIIQIIQ", size, 0, status, command, 1, flags, nxt, mid, 0, 0, 0) + bytes(16) + body)
+
+
+def reply(size=65, dialect=0x0210, caps=6, transact=1048576, read=524288, write=262144, offset=128, length=0, buffer=b""):
+    return struct.pack("<HHHH16sIIIIQQHHI", size, 1, dialect, 0, GUID, caps, transact, read, write, 0, 0, offset, length, 0) + buffer
+
+
+def error(count=0, data=b""):
+    return struct.pack("<HBBI", 9, 0, 0, count) + data
+
+
+def frame(data, first=0, length=None):
+    return bytes([first]) + struct.pack(">I", len(data) if length is None else length)[1:] + data
+
+
+def bad(kind):
+    return 5, f"fault 5 frame 1 {kind}\n"
+
+
+GOOD = 0, f"smb 0x0210 caps 6 transact 1048576 read 524288 write 262144 guid {GUID.hex()}\n"
+
+CASES = [
+    ("a reply", frame(message(body=reply())), GOOD),
+    ("a reply with a token", frame(message(body=reply(length=5, buffer=b"token"))), GOOD),
+    ("bytes behind the reply", frame(message(body=reply())) + b"\xee" * 9, GOOD),
+    ("an empty buffer anywhere", frame(message(body=reply(offset=9))), GOOD),
+    ("greatest numbers", frame(message(body=reply(caps=2**32 - 1, transact=2**32 - 1, read=0, write=1))),
+     (0, f"smb 0x0210 caps 4294967295 transact 4294967295 read 0 write 1 guid {GUID.hex()}\n")),
+    ("dialect 0x0202", frame(message(body=reply(dialect=0x0202))), (4, "fault 4 mount dialect 0x0202\n")),
+    ("dialect 0xABCD", frame(message(body=reply(dialect=0xABCD))), (4, "fault 4 mount dialect 0xABCD\n")),
+    ("another status", frame(message(status=0xC00000BB, body=error())), (4, "fault 4 mount dialect 0x0000\n")),
+    ("another status and its body", frame(message(status=0xC00000BB, body=reply())), bad("body")),
+    ("first byte 01", frame(message(body=reply()), first=1), bad("length")),
+    ("length 1,114,113", frame(b"", length=1114113), bad("length")),
+    ("63 bytes", frame(message(body=reply())[:63]), bad("head")),
+    ("a wrong magic", frame(message(magic=b"\xffSMB", body=reply())), bad("head")),
+    ("header size 63", frame(message(size=63, body=reply())), bad("head")),
+    ("NextCommand 60", frame(message(nxt=60, body=reply())), bad("chain")),
+    ("NextCommand 68", frame(message(nxt=68, body=reply()) + bytes(72)), bad("chain")),
+    ("two replies", frame(message(nxt=128, body=reply()) + message(body=reply())), bad("stranger")),
+    ("a second message with no header", frame(message(nxt=128, body=reply()) + bytes(64)), bad("head")),
+    ("id 77", frame(message(mid=77, body=reply())), bad("stranger")),
+    ("command 5", frame(message(command=5, body=reply())), bad("body")),
+    ("no reply flag", frame(message(flags=0, body=reply())), bad("body")),
+    ("body size 64", frame(message(body=reply(size=64))), bad("body")),
+    ("a buffer outside", frame(message(body=reply(length=1))), bad("body")),
+    ("a buffer in the fixed part", frame(message(body=reply(offset=127, length=1))), bad("body")),
+    ("two faults, id and command", frame(message(mid=77, command=5, body=reply())), bad("stranger")),
+    ("the end in mid-frame", frame(message(body=reply()))[:100], (6, "fault 6 cuts 1\n")),
+    ("the end at once", b"", (6, "fault 6 cuts 1\n")),
+]
+
+HEAD = bytes.fromhex("00000066fe534d4240000000000000000000200000000000000000000000000000000000"
+                     "0000000000000000000000000000000000000000000000000000000000000000"
+                     "240001000100000000000000")
+TAIL = bytes.fromhex("00000000000000001002")
+
+
+def ping(port):
+    done = subprocess.run([PROGRAM, "ping", "127.0.0.1", str(port)], capture_output=True, timeout=60)
+    return done.returncode, done.stdout.decode(), done.stderr
+
+
+def answered(data, dribble):
+    """What `ping` says to a server that sends these bytes once it has the request, and what the request was."""
+    asked = []
+    with socket.socket() as listener:
+        listener.bind(("127.0.0.1", 0))
+        listener.listen(1)
+
+        def serve():
+            peer, _ = listener.accept()
+            with peer:
+                peer.settimeout(30)
+                peer.setsockopt(socket.IPPROTO_TCP, socket.TCP_NODELAY, 1)
+                got = b""
+                while len(got) < 106:
+                    more = peer.recv(4096)
+                    if not more:
+                        break
+                    got += more
+                asked.append(got)
+                try:
+                    for at in range(0, len(data), 1 if dribble else len(data) or 1):
+                        peer.sendall(data[at:at + (1 if dribble else len(data))])
+                        if dribble:
+                            time.sleep(0.0005)
+                except OSError:
+                    pass
+
+        thread = threading.Thread(target=serve)
+        thread.start()
+        said = ping(listener.getsockname()[1])
+        thread.join(60)
+    return said, asked[0] if asked else b""
+
+
+failed = 0
+
+
+def expect(name, said, want):
+    global failed
+    if said[:2] != want or said[2]:
+        failed += 1
+        peers.say("ping", f"{name}: {said} where {want} was wanted")
+
+
+seeds = set()
+for name, data, want in CASES:
+    for dribble in (False, True):
+        said, asked = answered(data, dribble)
+        expect(name, said, want)
+        if asked[:80] != HEAD or asked[96:] != TAIL:
+            failed += 1
+            peers.say("ping", f"{name}: another request, {asked.hex()}")
+        seeds.add(asked[80:96])
+if len(seeds) != 2 * len(CASES):
+    failed += 1
+    peers.say("ping", "a client id came twice")
+expect("a closed port", ping(peers.free_port()), (6, "fault 6 connects 1\n"))
+peers.say("ping", f"{2 * len(CASES)} answers of a small responder, and a closed port")
+
+if shutil.which("smbd"):
+    samba = peers.Samba(["smb2 max trans = 524288", "smb2 max read = 131072", "smb2 max write = 262144"])
+    try:
+        said = ping(samba.port)
+        peers.say("ping", f"{peers.version('smbd', '--version')} said: {said[1].strip()}")
+        words = said[1].split()
+        if said[0] != 0 or words[:2] != ["smb", "0x0210"] or words[4:10] != ["transact", "524288", "read", "131072", "write", "262144"]:
+            failed += 1
+            peers.say("ping", f"Samba was told to say other numbers: {said}")
+    finally:
+        samba.end()
+else:
+    peers.say("ping", "Samba's part is skipped, no smbd")
+
+server = shutil.which("impacket-smbserver") or shutil.which("smbserver.py")
+if server:
+    port = peers.free_port()
+    with tempfile.TemporaryDirectory() as folder:
+        process = subprocess.Popen([server, "-smb2support", "-ip", "127.0.0.1", "-port", str(port), "share", folder],
+                                   stdin=subprocess.DEVNULL, stdout=subprocess.DEVNULL, stderr=subprocess.DEVNULL)
+        try:
+            if peers.wait_for(port):
+                expect("impacket's server, which knows 2.002 alone", ping(port), (4, "fault 4 mount dialect 0x0202\n"))
+                peers.say("ping", "impacket's server answers dialect 0x0202, as it should")
+            else:
+                peers.say("ping", "impacket's part is skipped, its server did not start")
+        finally:
+            process.terminate()
+            process.wait(20)
+else:
+    peers.say("ping", "impacket's part is skipped, no smbserver")
+
+peers.say("ping", "failed" if failed else "all as it should be")
+sys.exit(1 if failed else 0)

@@ -1,0 +1,3 @@
+pub mod WireName
+pub mod WireSteps
+pub mod Path
