@@ -1,4 +1,5 @@
 """`smbfs ping` against real peers: what it printed must be what the peer was told to say."""
+import os
 import shutil
 import socket
 import struct
@@ -151,11 +152,12 @@ if shutil.which("smbd"):
 else:
     peers.say("ping", "Samba's part is skipped, no smbd")
 
-server = shutil.which("impacket-smbserver") or shutil.which("smbserver.py")
+EXAMPLE = "/usr/share/doc/python3-impacket/examples/smbserver.py"
+server = shutil.which("impacket-smbserver") or shutil.which("smbserver.py") or (os.path.exists(EXAMPLE) and EXAMPLE)
 if server:
     port = peers.free_port()
     with tempfile.TemporaryDirectory() as folder:
-        process = subprocess.Popen([server, "-smb2support", "-ip", "127.0.0.1", "-port", str(port), "share", folder],
+        process = subprocess.Popen(["/usr/bin/python3", server, "-smb2support", "-ip", "127.0.0.1", "-port", str(port), "share", folder],
                                    stdin=subprocess.DEVNULL, stdout=subprocess.DEVNULL, stderr=subprocess.DEVNULL)
         try:
             if peers.wait_for(port):

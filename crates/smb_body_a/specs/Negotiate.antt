@@ -1,5 +1,5 @@
 -- The bodies of NEGOTIATE (MS-SMB2 2.2.3 and 2.2.4): each field after the structure size, in the order of the tables there.
-use Rattle.std.specs.Prelude.{◌≡◌, ℕ, ◌*◌, ◌/◌, ◌%◌, List, [], ◌∷◌, length}
+use Rattle.std.specs.Prelude.{◌≡◌, ℕ, ◌/◌, ◌%◌, List, [], ◌∷◌, length}
 use Rattle.smb_field.specs.declared.field.Field.{Field}
 use Rattle.smb_field.specs.declared.field.Field.TheVariants.{U16, U32, U64, Block, Any16, Any32, Any64, Offset16, Follows}
 use Rattle.smb_field.specs.Body.{IsBody}

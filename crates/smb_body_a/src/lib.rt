@@ -5,6 +5,8 @@
 mod empty;
 mod negotiate;
 mod session;
+#[cfg(test)]
+mod tests;
 mod tree;
 
 pub use empty::{Empty, read_empty, write_empty};
@@ -12,12 +14,12 @@ pub use negotiate::{
     NegotiateReply, NegotiateRequest, read_negotiate_reply, read_negotiate_request,
     write_negotiate_reply, write_negotiate_request,
 };
-pub use smb_field::BodyFault;
 pub use session::{
-    SessionSetupReply, SessionSetupRequest, read_session_setup_reply, read_session_setup_request, write_session_setup_reply,
-    write_session_setup_request,
+    SessionSetupReply, SessionSetupRequest, read_session_setup_reply, read_session_setup_request,
+    write_session_setup_reply, write_session_setup_request,
 };
+pub use smb_field::BodyFault;
 pub use tree::{
-    TreeConnectReply, TreeConnectRequest, read_tree_connect_reply, read_tree_connect_request, write_tree_connect_reply,
-    write_tree_connect_request,
+    TreeConnectReply, TreeConnectRequest, read_tree_connect_reply, read_tree_connect_request,
+    write_tree_connect_reply, write_tree_connect_request,
 };

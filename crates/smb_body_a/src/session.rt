@@ -42,7 +42,12 @@ pub fn read_session_setup_request(part: &[u8]) -> Result<SessionSetupRequest<'_>
     if get_u16(part, 64) != 25 {
         return Err(BodyFault::Size);
     }
-    let Some(buffer) = lent(part, 88, u32::from(get_u16(part, 76)), u32::from(get_u16(part, 78))) else {
+    let Some(buffer) = lent(
+        part,
+        88,
+        u32::from(get_u16(part, 76)),
+        u32::from(get_u16(part, 78)),
+    ) else {
         return Err(BodyFault::Offset);
     };
     Ok(SessionSetupRequest {
@@ -52,7 +57,10 @@ pub fn read_session_setup_request(part: &[u8]) -> Result<SessionSetupRequest<'_>
 }
 
 /// Appends the body of a SESSION_SETUP request. For want of memory nothing is changed.
-pub fn write_session_setup_request(out: &mut Vec<u8>, x: &SessionSetupRequest<'_>) -> Result<(), NoMemory>
+pub fn write_session_setup_request(
+    out: &mut Vec<u8>,
+    x: &SessionSetupRequest<'_>,
+) -> Result<(), NoMemory>
     requires { length x.now.buffer.now < 2 ^ 16 }
     ensures { WritesBody 25 (session_setup_request x.now) x.now.buffer.now out.old.items out.new.items result }
 {
@@ -83,7 +91,12 @@ pub fn read_session_setup_reply(part: &[u8]) -> Result<SessionSetupReply<'_>, Bo
     if get_u16(part, 64) != 9 {
         return Err(BodyFault::Size);
     }
-    let Some(buffer) = lent(part, 72, u32::from(get_u16(part, 68)), u32::from(get_u16(part, 70))) else {
+    let Some(buffer) = lent(
+        part,
+        72,
+        u32::from(get_u16(part, 68)),
+        u32::from(get_u16(part, 70)),
+    ) else {
         return Err(BodyFault::Offset);
     };
     Ok(SessionSetupReply {
@@ -93,14 +106,21 @@ pub fn read_session_setup_reply(part: &[u8]) -> Result<SessionSetupReply<'_>, Bo
 }
 
 /// Appends the body of a SESSION_SETUP reply. For want of memory nothing is changed.
-pub fn write_session_setup_reply(out: &mut Vec<u8>, x: &SessionSetupReply<'_>) -> Result<(), NoMemory>
+pub fn write_session_setup_reply(
+    out: &mut Vec<u8>,
+    x: &SessionSetupReply<'_>,
+) -> Result<(), NoMemory>
     requires { length x.now.buffer.now < 2 ^ 16 }
     ensures { WritesBody 9 (session_setup_reply x.now) x.now.buffer.now out.old.items out.new.items result }
 {
     put_varied(
         out,
         9,
-        &[Field::U16(x.session_flags), Field::Offset16, Field::U16(x.buffer.len() as u16)],
+        &[
+            Field::U16(x.session_flags),
+            Field::Offset16,
+            Field::U16(x.buffer.len() as u16),
+        ],
         x.buffer,
     )
 }

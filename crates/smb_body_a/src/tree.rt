@@ -43,21 +43,33 @@ pub fn read_tree_connect_request(part: &[u8]) -> Result<TreeConnectRequest<'_>, 
     if get_u16(part, 64) != 9 {
         return Err(BodyFault::Size);
     }
-    let Some(path) = lent(part, 72, u32::from(get_u16(part, 68)), u32::from(get_u16(part, 70))) else {
+    let Some(path) = lent(
+        part,
+        72,
+        u32::from(get_u16(part, 68)),
+        u32::from(get_u16(part, 70)),
+    ) else {
         return Err(BodyFault::Offset);
     };
     Ok(TreeConnectRequest { path })
 }
 
 /// Appends the body of a TREE_CONNECT request. For want of memory nothing is changed.
-pub fn write_tree_connect_request(out: &mut Vec<u8>, x: &TreeConnectRequest<'_>) -> Result<(), NoMemory>
+pub fn write_tree_connect_request(
+    out: &mut Vec<u8>,
+    x: &TreeConnectRequest<'_>,
+) -> Result<(), NoMemory>
     requires { length x.now.path.now < 2 ^ 16 }
     ensures { WritesBody 9 (tree_connect_request x.now) x.now.path.now out.old.items out.new.items result }
 {
     put_varied(
         out,
         9,
-        &[Field::Any16(0), Field::Offset16, Field::U16(x.path.len() as u16)],
+        &[
+            Field::Any16(0),
+            Field::Offset16,
+            Field::U16(x.path.len() as u16),
+        ],
         x.path,
     )
 }

@@ -7,6 +7,8 @@ mod error;
 mod info;
 mod lease;
 mod lock;
+#[cfg(test)]
+mod tests;
 
 pub use directory::{
     BufferReply, QueryDirectoryRequest, read_buffer_reply, read_query_directory_request,

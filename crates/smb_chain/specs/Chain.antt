@@ -13,10 +13,11 @@ padded n = (n + 7) / 8 * 8
 abbrev pub linked : Head → ℕ → Head
 linked head n = record head { next = n }
 
+-- a header's fields and a body as a message
 abbrev pub message : Head → List ℕ → Message
 message head body = record { head = head; body = body }
 
--- a header and a body
+-- how long a message is: a header and its body
 abbrev pub size_of : Message → ℕ
 size_of m = 64 + length m.body
 

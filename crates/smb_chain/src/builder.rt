@@ -3,7 +3,7 @@
 ghost use Rattle.std.specs.Prelude.{◌≡◌, ◌↔◌, ◌==◌, ◌+◌, ◌≤◌, ◌<◌, ◌^◌, ◌++◌, ◌∷◌, [], ℕ, List, Ok, length, map, drop, replicate, IsTrue, IfOk, OnOk, OnErr};
 ghost use Rattle.std.specs.List.{All};
 ghost use Rattle.smb_head.specs.Header.{IsRouted, FitsHeader, head_of, header};
-ghost use Rattle.smb_head.specs.Stream.{frame};
+ghost use Rattle.smb_head.specs.Stream.{Whole, first_of, frame};
 ghost use Rattle.smb_chain.specs.Chain.{chain, padded, linked, message, part_for, parts_for};
 ghost use Rattle.smb_chain.specs.Parts.{parts_of};
 
@@ -56,7 +56,7 @@ impl ChainBuilder {
         }
     }
 
-    /// How many bytes the chain has so far.
+    /// How many bytes the chain has so far, the four in front of the frame not counted.
     pub fn len(&self) -> usize
         ensures value { result ≡ length (chain self.now) }
         ensures within { result ≤ MAX_FRAME }
@@ -94,7 +94,8 @@ impl ChainBuilder {
         ensures err { OnErr result (self.new ≡ self.old) }
 
         // Its header is read again, whatever place of the next message it has and whatever follows.
-        ensures read_again { (n : ℕ) (rest : List ℕ) → n < 2 ^ 32 → head_of (header (linked head.now n) ++ rest) ≡ Ok (linked head.now n) }
+        ensures read_again { (n : ℕ) (rest : List ℕ) → n < 2 ^ 32
+            → head_of (header (linked head.now n) ++ rest) ≡ Ok (linked head.now n) }
     {
         fits(*head);
         let len = padded_len(self.len) + (64 + body.len());
@@ -112,9 +113,13 @@ impl ChainBuilder {
     pub fn finish(self) -> Result<Bytes, NoMemory>
         ensures whole { IfOk result (λ b. b ≡ frame (chain self)) }
 
+        // It is taken off a stream again, whatever follows it.
+        ensures taken { IfOk result (λ b. (rest : List ℕ) → first_of (b ++ rest) ≡ Whole (chain self) rest) }
+
         // Without its first four bytes it is split into what was added, in order: each part is the header, with its place of the next
         // message, the body, and at most seven zero bytes.
-        ensures split_again { IfOk result (λ b. 0 < length self → parts_of (drop 4 b) ≡ map (λ part. Ok part) (parts_for self)) }
+        ensures split_again { IfOk result (λ b. 0 < length self
+            → parts_of (drop 4 b) ≡ map (λ part. Ok part) (parts_for self)) }
     {
         let mut out = Vec::with_capacity(self.alloc, 4 + self.len)?;
         out.extend_from_slice(&frame_start(self.len))?;
@@ -165,7 +170,8 @@ fn put_part(out: &mut Vec<u8>, message: &Message, last: bool) -> Result<(), NoMe
 fn put_with(out: &mut Vec<u8>, message: &Message, next: u32, zeros: usize) -> Result<(), NoMemory>
     requires routed { IsRouted message.now.head }
     requires few { zeros < 8 }
-    ensures { OnOk result (out.new.items ≡ out.old.items ++ (header (linked message.now.head next) ++ (message.now.body ++ replicate zeros 0))) }
+    ensures { OnOk result (out.new.items ≡ out.old.items
+        ++ (header (linked message.now.head next) ++ (message.now.body ++ replicate zeros 0))) }
 {
     let head = Head {
         next,

@@ -6,3 +6,6 @@ mod parts;
 
 pub use builder::{ChainBuilder, Message};
 pub use parts::{BadNext, Parts, first_part, split};
+
+#[cfg(test)]
+mod tests;

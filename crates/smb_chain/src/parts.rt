@@ -1,6 +1,6 @@
 //! The messages of a frame.
 
-ghost use Rattle.std.specs.Prelude.{◌≡◌, ◌+◌, ◌*◌, ◌^◌, ◌<◌, ◌≤◌, length};
+ghost use Rattle.std.specs.Prelude.{◌≡◌, ◌+◌, ◌*◌, ◌^◌, ◌<◌, ◌≤◌, ◌++◌, length, IfOk, IfSome};
 ghost use Rattle.smb_chain.specs.Parts.{is_bad_next, step_of, seen_step, parts_of};
 
 use smb_le::get_u32;
@@ -16,14 +16,19 @@ pub struct BadNext;
 /// The first message of a frame (without its first four bytes), and the bytes from the next message on where there is one. A message
 /// is the bytes from its header up to the next message, or to the end of the frame where its NextCommand is 0. It takes no memory.
 ///
-/// Bytes that are no whole header, fewer than 64, are one part as they stand: the reader of heads refuses them as short.
+/// Bytes that are no whole header, fewer than 64, are one part as they stand: the reader of heads refuses them as short. Who judges a
+/// frame reads the head of what is left before each step, since a fault of a message's head goes before a bad place of the next one.
 ///
 /// # Errors
 ///
 /// [`BadNext`] exactly where NextCommand is bad.
 #[tactic(auto, unfolding(crate::specs::Parts::step_of))]
 pub fn first_part(frame: &[u8]) -> Result<(&[u8], Option<&[u8]>), BadNext>
-    ensures { seen_step result ≡ step_of frame.now }
+    ensures value { seen_step result ≡ step_of frame.now }
+
+    // A message that another follows has a header at least, so that a walk over the messages ends.
+    ensures joined { IfOk result (λ p. IfSome p.1 (λ rest. p.0.now ++ rest.now ≡ frame.now)) }
+    ensures shorter { IfOk result (λ p. IfSome p.1 (λ rest. 64 + length rest.now ≤ length frame.now)) }
 {
     if frame.len() < 64 {
         return Ok((frame, None));

@@ -1,16 +1,16 @@
 -- A spelling is read again: each field stands where it was written, and so do all of them and the variable part.
-use Rattle.std.proofs.Common.{◌≡◌, ℕ, zero, suc, ◌+◌, ◌-◌, ◌%◌, ◌^◌, ◌<◌, ◌≤◌, List, [], ◌∷◌, ◌++◌, length, take, drop, get_or, refl, ap, sym, subst, ◌∙◌, arith, append_assoc, length-append, Bool, true, false, if◌then◌else◌, replicate}
-use Rattle.std.proofs.lemmas.List.{append-nil, take_at, drop_at}
+use Rattle.std.proofs.Common.{◌≡◌, ℕ, ◌+◌, ◌-◌, ◌%◌, ◌^◌, ◌<◌, ◌≤◌, List, [], ◌∷◌, ◌++◌, length, drop, get_or, refl, ap, sym, subst, ◌∙◌, arith, append_assoc, length-append, Bool, false, if◌then◌else◌, replicate}
+use Rattle.std.proofs.lemmas.List.{take_at, drop_at}
 use Rattle.std.proofs.lemmas.Bool.Decides.{nat_tests}
 use Rattle.std.proofs.Math.Seq.{get_or-append_seam}
 use Rattle.std.specs.Prelude.{◌==◌, slice_range, ⊤}
 use Rattle.smb_le.specs.Numbers.{number_at, bytes_of}
-use Rattle.smb_le.proofs.NumberLaws.{number_at-append_left, number_at-append_right, number_at-bytes_of, length-bytes_of}
+use Rattle.smb_le.proofs.NumberLaws.{number_at-append_right, number_at-bytes_of, length-bytes_of}
 use Rattle.smb_field.specs.declared.field.Field.{Field}
-use Rattle.smb_field.specs.declared.field.Field.TheVariants.{U8, U16, U32, U64, Block, Any8, Any16, Any32, Any64, Place8, Offset16, Offset32, Second32, Follows}
+use Rattle.smb_field.specs.declared.field.Field.TheVariants.{U8, U16, U32, U64, Block, Name, Any8, Any16, Any32, Any64, Place8, Offset16, Offset32, Second32, Follows}
 use Rattle.smb_field.specs.declared.field.Places.{Places}
 use Rattle.smb_field.specs.Fields.{width, width_of, Says, Holds, spelled_field, spelled, Fits, AllFit}
-use Rattle.smb_field.specs.Body.{end_of_fixed, Lends, named, places_of, tail, spelling, IsBody, IsReadAgain}
+use Rattle.smb_field.specs.Body.{end_of_fixed, Lends, named, places_of, tail, spelling, IsReadAgain}
 
 -- the offsets that are written fit, and meet what is said of the parts
 pub record Meets (first second : ℕ → Type 0) (behind : ℕ) (places : Places) : Type 0 where
@@ -36,7 +36,7 @@ byte-stands n at message head rest is place =
     ap (λ (k : ℕ). get_or message k 0) place ∙ ap (λ (xs : List ℕ). get_or xs (length head) 0) is ∙ get_or-append_seam head n rest 0
 
 -- and so are sixteen bytes, or any part
-part-stands : (part : List ℕ) (at n : ℕ) (message head rest : List ℕ) → message ≡ head ++ (part ++ rest) → at ≡ length head → n ≡ length part
+pub part-stands : (part : List ℕ) (at n : ℕ) (message head rest : List ℕ) → message ≡ head ++ (part ++ rest) → at ≡ length head → n ≡ length part
     → slice_range message at (at + n) ≡ part
 part-stands part at n message head rest is place long =
     let from : drop at message ≡ part ++ rest = ap (drop at) is ∙ drop_at head (part ++ rest) at (sym place) in
@@ -52,6 +52,7 @@ field-says first second behind places (U16 n) at message head rest meets fits pl
 field-says first second behind places (U32 n) at message head rest meets fits place is = number-stands 4 n at message head rest is place fits
 field-says first second behind places (U64 n) at message head rest meets fits place is = number-stands 8 n at message head rest is place fits
 field-says first second behind places (Block bytes) at message head rest meets fits place is = part-stands bytes at 16 message head rest is place (sym fits)
+field-says first second behind places (Name bytes) at message head rest meets fits place is = part-stands bytes at 4 message head rest is place (sym fits)
 field-says first second behind places (Any8 n) at message head rest meets fits place is = tt
 field-says first second behind places (Any16 n) at message head rest meets fits place is = tt
 field-says first second behind places (Any32 n) at message head rest meets fits place is = tt
@@ -74,6 +75,7 @@ length-spelled_field places (U16 n) fits = length-bytes_of 2 n
 length-spelled_field places (U32 n) fits = length-bytes_of 4 n
 length-spelled_field places (U64 n) fits = length-bytes_of 8 n
 length-spelled_field places (Block bytes) fits = fits
+length-spelled_field places (Name bytes) fits = fits
 length-spelled_field places (Any8 n) fits = refl
 length-spelled_field places (Any16 n) fits = length-bytes_of 2 n
 length-spelled_field places (Any32 n) fits = length-bytes_of 4 n
@@ -109,13 +111,13 @@ spelled-holds first second behind places (f ∷ fields) at message head rest mee
     )
 
 -- a list with a member has a length that is not 0
-not-empty : (b : ℕ) (xs : List ℕ) → (length (b ∷ xs) == 0) ≡ false
+pub not-empty : (b : ℕ) (xs : List ℕ) → (length (b ∷ xs) == 0) ≡ false
 not-empty b xs = grind (arith, nat_tests)
 
 -- the offset of an empty part is 0, and that of another one its place
-named-cases : (part : List ℕ) (at : ℕ) → named part at ≤ at
-named-cases [] at = omega arith
-named-cases (b ∷ xs) at = rw (ap (λ (t : Bool). if t then 0 else at) (not-empty b xs)) (omega arith)
+pub named-le : (part : List ℕ) (at : ℕ) → named part at ≤ at
+named-le [] at = omega arith
+named-le (b ∷ xs) at = rw (ap (λ (t : Bool). if t then 0 else at) (not-empty b xs)) (omega arith)
 
 -- a variable part stands behind the fixed part, where it was written, under the offset that names it
 part-lent : (size : ℕ) (part : List ℕ) (message head rest : List ℕ) → message ≡ head ++ (tail size part ++ rest) → end_of_fixed size ≡ length head
@@ -132,11 +134,11 @@ part-lent size (b ∷ xs) message head rest is place =
     (there, subst (λ (k : ℕ). Lends (end_of_fixed size) (b ∷ xs) message k) (sym at) there)
 
 -- the offsets that a body names fit
-meets : (size : ℕ) (part : List ℕ) (message head rest : List ℕ) → size < 192 → message ≡ head ++ (tail size part ++ rest) → end_of_fixed size ≡ length head
+pub meets : (size : ℕ) (part : List ℕ) (message head rest : List ℕ) → size < 192 → message ≡ head ++ (tail size part ++ rest) → end_of_fixed size ≡ length head
     → Meets (Lends (end_of_fixed size) part message) (λ (offset : ℕ). ⊤) (end_of_fixed size) (places_of size part)
 meets size part message head rest small is place =
     let both = part-lent size part message head rest is place in
-    let low : named part (end_of_fixed size) ≤ end_of_fixed size = named-cases part (end_of_fixed size) in
+    let low : named part (end_of_fixed size) ≤ end_of_fixed size = named-le part (end_of_fixed size) in
     record {
       narrow = omega arith;
       first_fits = omega arith;
@@ -147,33 +149,37 @@ meets size part message head rest small is place =
       follows = both.0;
     }
 
--- behind a header the spelling of a body is that body
-body-stands : (size : ℕ) (fields : List Field) (part message header rest : List ℕ) → size < 192 → 2 + width_of fields ≡ size - size % 2 → AllFit fields
-    → length header ≡ 64 → message ≡ header ++ (bytes_of 2 size ++ (spelled (places_of size part) fields ++ (tail size part ++ rest)))
-    → IsBody size fields part message
-body-stands size fields part message header rest small whole fit long is =
-    let places = places_of size part in
+-- behind a header, a structure size and fields that were written hold, where the offsets meet what is said of the parts
+pub written-stands : (p q : ℕ → Type 0) (size : ℕ) (places : Places) (fields : List Field) (tail message header rest : List ℕ) → size < 192
+    → 2 + width_of fields ≡ size - size % 2 → AllFit fields → length header ≡ 64
+    → message ≡ header ++ (bytes_of 2 size ++ (spelled places fields ++ (tail ++ rest)))
+    → ((head : List ℕ) → message ≡ head ++ (tail ++ rest) → end_of_fixed size ≡ length head → Meets p q (end_of_fixed size) places)
+    → (end_of_fixed size ≤ length message) × (number_at 2 64 message ≡ size) × Holds p q (end_of_fixed size) 66 fields message
+written-stands p q size places fields tail message header rest small whole fit long is meet =
     let head = header ++ bytes_of 2 size in
-    let second : message ≡ head ++ (spelled places fields ++ (tail size part ++ rest)) =
-    is ∙ sym (append_assoc header (bytes_of 2 size) (spelled places fields ++ (tail size part ++ rest))) in
-    let third : message ≡ (head ++ spelled places fields) ++ (tail size part ++ rest) =
-    second ∙ sym (append_assoc head (spelled places fields) (tail size part ++ rest)) in
+    let second : message ≡ head ++ (spelled places fields ++ (tail ++ rest)) =
+    is ∙ sym (append_assoc header (bytes_of 2 size) (spelled places fields ++ (tail ++ rest))) in
+    let third : message ≡ (head ++ spelled places fields) ++ (tail ++ rest) =
+    second ∙ sym (append_assoc head (spelled places fields) (tail ++ rest)) in
     let at : 66 ≡ length head = omega (arith, length-append header (bytes_of 2 size), length-bytes_of 2 size) in
     let front : end_of_fixed size ≡ length (head ++ spelled places fields) =
     omega (arith, length-append head (spelled places fields), length-spelled places fields fit) in (
-      omega (arith, ap length third, length-append (head ++ spelled places fields) (tail size part ++ rest)),
-      number-stands 2 size 64 message header (spelled places fields ++ (tail size part ++ rest)) is (sym long) (omega arith),
-      spelled-holds (Lends (end_of_fixed size) part message) (λ (offset : ℕ). ⊤) (end_of_fixed size) places fields 66 message head (tail size part ++ rest)
-          (meets size part message (head ++ spelled places fields) rest small third front) fit at second,
+      omega (arith, ap length third, length-append (head ++ spelled places fields) (tail ++ rest)),
+      number-stands 2 size 64 message header (spelled places fields ++ (tail ++ rest)) is (sym long) (omega arith),
+      spelled-holds p q (end_of_fixed size) places fields 66 message head (tail ++ rest) (meet (head ++ spelled places fields) third front) fit at second,
     )
 
--- and so is it whatever follows
+-- four pieces one after another, whatever follows, however they are grouped
+pub regrouped : (header a b c rest : List ℕ) → header ++ ((a ++ (b ++ c)) ++ rest) ≡ header ++ (a ++ (b ++ (c ++ rest)))
+regrouped header a b c rest =
+    ap (λ (xs : List ℕ). header ++ xs) (append_assoc a (b ++ c) rest ∙ ap (λ (xs : List ℕ). a ++ xs) (append_assoc b c rest))
+
+-- behind a header, and whatever follows it, a body's spelling is that body
 pub read_again : (size : ℕ) (fields : List Field) (part : List ℕ) → size < 192 → 2 + width_of fields ≡ size - size % 2 → AllFit fields
     → IsReadAgain size fields part
 unfolding IsReadAgain spelling
 read_again size fields part small whole fit header rest long =
-    let places = places_of size part in
-    body-stands size fields part (header ++ ((bytes_of 2 size ++ (spelled places fields ++ tail size part)) ++ rest)) header rest small whole fit long
-    (ap (λ (xs : List ℕ). header ++ xs)
-    (append_assoc (bytes_of 2 size) (spelled places fields ++ tail size part) rest
-    ∙ ap (λ (xs : List ℕ). bytes_of 2 size ++ xs) (append_assoc (spelled places fields) (tail size part) rest)))
+    let message = header ++ ((bytes_of 2 size ++ (spelled (places_of size part) fields ++ tail size part)) ++ rest) in
+    written-stands (Lends (end_of_fixed size) part message) (λ (offset : ℕ). ⊤) size (places_of size part) fields (tail size part) message header rest
+    small whole fit long (regrouped header (bytes_of 2 size) (spelled (places_of size part) fields) (tail size part) rest)
+    (λ head is front. meets size part message head rest small is front)

@@ -3,7 +3,7 @@
 use Rattle.std.specs.Prelude.{◌≡◌, ℕ, ◌+◌, ◌^◌, ◌<◌, length, List, [], ◌∷◌, ◌++◌, slice_index, slice_range, ⊤}
 use Rattle.smb_le.specs.Numbers.{number_at, bytes_of}
 use Rattle.smb_field.specs.declared.field.Field.{Field}
-use Rattle.smb_field.specs.declared.field.Field.TheVariants.{U8, U16, U32, U64, Block, Any8, Any16, Any32, Any64, Place8, Offset16, Offset32, Second32, Follows}
+use Rattle.smb_field.specs.declared.field.Field.TheVariants.{U8, U16, U32, U64, Block, Name, Any8, Any16, Any32, Any64, Place8, Offset16, Offset32, Second32, Follows}
 use Rattle.smb_field.specs.declared.field.Places.{Places}
 
 -- how many bytes a field takes
@@ -13,6 +13,7 @@ width (U16 n) = 2
 width (U32 n) = 4
 width (U64 n) = 8
 width (Block bytes) = 16
+width (Name bytes) = 4
 width (Any8 n) = 1
 width (Any16 n) = 2
 width (Any32 n) = 4
@@ -36,6 +37,7 @@ Says first second behind at (U16 n) message = number_at 2 at message ≡ n
 Says first second behind at (U32 n) message = number_at 4 at message ≡ n
 Says first second behind at (U64 n) message = number_at 8 at message ≡ n
 Says first second behind at (Block bytes) message = slice_range message at (at + 16) ≡ bytes
+Says first second behind at (Name bytes) message = slice_range message at (at + 4) ≡ bytes
 Says first second behind at (Any8 n) message = ⊤
 Says first second behind at (Any16 n) message = ⊤
 Says first second behind at (Any32 n) message = ⊤
@@ -59,6 +61,7 @@ spelled_field places (U16 n) = bytes_of 2 n
 spelled_field places (U32 n) = bytes_of 4 n
 spelled_field places (U64 n) = bytes_of 8 n
 spelled_field places (Block bytes) = bytes
+spelled_field places (Name bytes) = bytes
 spelled_field places (Any8 n) = n ∷ []
 spelled_field places (Any16 n) = bytes_of 2 n
 spelled_field places (Any32 n) = bytes_of 4 n
@@ -74,13 +77,14 @@ unfoldable pub spelled : Places → List Field → List ℕ
 spelled places [] = []
 spelled places (f ∷ fields) = spelled_field places f ++ spelled places fields
 
--- a field's number fits its width, and a block has sixteen bytes
+-- a field's number fits its width, a block has sixteen bytes, and a name four
 abbrev pub Fits : Field → Type 0
 Fits (U8 n) = n < 256
 Fits (U16 n) = n < 2 ^ 16
 Fits (U32 n) = n < 2 ^ 32
 Fits (U64 n) = n < 2 ^ 64
 Fits (Block bytes) = length bytes ≡ 16
+Fits (Name bytes) = length bytes ≡ 4
 Fits (Any8 n) = n < 256
 Fits (Any16 n) = n < 2 ^ 16
 Fits (Any32 n) = n < 2 ^ 32

@@ -1,2 +1,4 @@
 pub mod Fields
 pub mod Body
+pub mod TwoParts
+pub mod Structure

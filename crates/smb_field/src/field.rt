@@ -15,6 +15,8 @@ pub enum Field {
     U64(u64),
     /// Sixteen bytes as they are, as a guid or a lease key.
     Block([u8; 16]),
+    /// Four bytes as they are, as the name of a create context.
+    Name([u8; 4]),
     /// A number of 1 byte that is written and that a reader passes over.
     Any8(u8),
     /// A number of 2 bytes that is written and that a reader passes over.

@@ -3,8 +3,10 @@
 
 mod field;
 mod read;
+#[cfg(test)]
+mod tests;
 mod write;
 
 pub use field::{BodyFault, Field, Places};
 pub use read::lent;
-pub use write::put_varied;
+pub use write::{put_parts, put_structure, put_varied};

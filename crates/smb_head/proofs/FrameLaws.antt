@@ -144,6 +144,6 @@ first_of-begun n message (suc (suc (suc (suc k)))) fits is before =
     let long : length (take k message) ≡ k = length-take-le k message (omega arith) in
     rw e (begun (length (take k message)) n (omega arith) fits)
   where
-  begun : (a n : ℕ) → a < n → n ≤ MAX_FRAME
-      → cond (nat_lt (suc (suc (suc (suc a)))) 4) Partial (cond (nat_lt MAX_FRAME n) (Bad (TooLarge n)) (cond (nat_lt (suc (suc (suc (suc a)))) (4 + n)) Partial (Whole (take n (take k message)) (drop (4 + n) (take (suc (suc (suc (suc k)))) (prefix n ++ message)))))) ≡ Partial
-  begun a n less small = grind arith
+    begun : (a n : ℕ) → a < n → n ≤ MAX_FRAME
+        → cond (nat_lt (suc (suc (suc (suc a)))) 4) Partial (cond (nat_lt MAX_FRAME n) (Bad (TooLarge n)) (cond (nat_lt (suc (suc (suc (suc a)))) (4 + n)) Partial (Whole (take n (take k message)) (drop (4 + n) (take (suc (suc (suc (suc k)))) (prefix n ++ message)))))) ≡ Partial
+    begun a n less small = grind arith

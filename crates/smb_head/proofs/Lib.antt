@@ -1,3 +1,4 @@
 pub mod HeadLaws
 pub mod FrameLaws
 pub mod StreamLaws
+pub mod Examples

@@ -12,6 +12,7 @@ use Rattle.smb_head.specs.declared.head.HeadFault.TheVariants.{Short, Magic, Siz
 abbrev pub has_async : ℕ → Bool
 has_async flags = bit_and flags 2 == 2
 
+-- whether a route is an AsyncId
 abbrev pub is_async : Route → Bool
 is_async (Sync tree) = false
 is_async (Async id) = true
@@ -63,11 +64,12 @@ header head =
     ++ (bytes_of 2 head.command ++ (bytes_of 2 head.credits ++ (bytes_of 4 head.flags.0 ++ (bytes_of 4 head.next
     ++ (bytes_of 8 head.mid.0 ++ (route_bytes head.route ++ (bytes_of 8 head.session ++ replicate 16 0))))))))))
 
--- each field fits its width
+-- the id of a route fits its width
 abbrev pub FitsRoute : Route → Type 0
 FitsRoute (Sync tree) = tree < 2 ^ 32
 FitsRoute (Async id) = id < 2 ^ 64
 
+-- each field fits its width
 pub record FitsHeader (head : Head) : Type 0 where
   pub charge : head.charge < 2 ^ 16
   pub status : head.status.0 < 2 ^ 32

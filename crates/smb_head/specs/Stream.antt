@@ -49,6 +49,7 @@ lack Partial bytes = if nat_lt (length bytes) 4 then 4 - length bytes else 4 + f
 lack (Whole message rest) bytes = 0
 lack (Bad fault) bytes = 0
 
+-- how many bytes are missing of what is held
 abbrev pub lack_of : List ℕ → ℕ
 lack_of bytes = lack (first_of bytes) bytes
 
@@ -58,12 +59,13 @@ fault_of Partial = None
 fault_of (Whole message rest) = None
 fault_of (Bad fault) = Some fault
 
--- the messages of the first frames, and the bytes after them: what n steps at most take off
+-- the messages of a frame and of those after it, and the bytes that are left
 abbrev pub one_more : First → List ℕ → (List ℕ → List (List ℕ) × List ℕ) → List (List ℕ) × List ℕ
 one_more Partial bytes others = ([], bytes)
 one_more (Whole message rest) bytes others = (message ∷ (others rest).0, (others rest).1)
 one_more (Bad fault) bytes others = ([], bytes)
 
+-- what at most n steps take off: the messages, and the bytes that are left
 abbrev pub taken_within : ℕ → List ℕ → List (List ℕ) × List ℕ
 taken_within zero bytes = ([], bytes)
 taken_within (suc n) bytes = one_more (first_of bytes) bytes (taken_within n)

@@ -30,7 +30,8 @@ pub enum FrameFault {
 /// `NotZero` where the first byte is not zero, `TooLarge` where the length is above [`MAX_FRAME`].
 #[tactic(auto, unfolding(crate::specs::Stream::first_of))]
 pub fn first_frame(bytes: &[u8]) -> Result<Option<&[u8]>, FrameFault>
-    ensures whole { IfOk result (λ frame. IfSome frame (λ m. first_of bytes.now ≡ Whole m.now (drop (4 + length m.now) bytes.now))) }
+    ensures whole { IfOk result (λ frame. IfSome frame (λ m.
+        first_of bytes.now ≡ Whole m.now (drop (4 + length m.now) bytes.now))) }
     ensures within { IfOk result (λ frame. IfSome frame (λ m. 4 + length m.now ≤ length bytes.now)) }
     ensures partial { IfOk result (λ frame. IfNone frame (first_of bytes.now ≡ Partial)) }
     ensures bad { IfErr result (λ fault. first_of bytes.now ≡ Bad fault) }
@@ -69,7 +70,8 @@ pub fn frame_lacks(bytes: &[u8]) -> usize
     ensures value { result ≡ lack_of bytes.now }
 
     // From four bytes on, any so many bytes more make it one whole frame.
-    ensures completes { first_of bytes.now ≡ Partial → 4 ≤ length bytes.now → (more : List ℕ) → length more ≡ result
+    ensures completes { first_of bytes.now ≡ Partial → 4 ≤ length bytes.now
+        → (more : List ℕ) → length more ≡ result
         → first_of (bytes.now ++ more) ≡ Whole (drop 4 (bytes.now ++ more)) [] }
 {
     match first_frame(bytes) {
@@ -95,10 +97,12 @@ pub fn frame_start(len: usize) -> [u8; 4]
     ensures value { result ≡ prefix len }
 
     // A message with these four in front is less than a frame until its last byte is there.
-    ensures begun { (message : List ℕ) (k : ℕ) → length message ≡ len → k < 4 + len → first_of (take k (prefix len ++ message)) ≡ Partial }
+    ensures begun { (message : List ℕ) (k : ℕ) → length message ≡ len → k < 4 + len
+        → first_of (take k (prefix len ++ message)) ≡ Partial }
 
     // A message with these four in front is taken off a stream again, whatever follows it.
-    ensures taken { (message rest : List ℕ) → length message ≡ len → first_of (prefix len ++ (message ++ rest)) ≡ Whole message rest }
+    ensures taken { (message rest : List ℕ) → length message ≡ len
+        → first_of (prefix len ++ (message ++ rest)) ≡ Whole message rest }
 {
     [
         0,

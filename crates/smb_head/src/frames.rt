@@ -1,6 +1,6 @@
 //! Frames of a stream that comes in pieces.
 
-ghost use Rattle.std.specs.Prelude.{◌≡◌, ◌≤◌, ◌++◌, [], ℕ, List, Some, None, drop, IfOk, IfErr, IfSome, IfNone, OnOk, OnErr, vec_len};
+ghost use Rattle.std.specs.Prelude.{◌≡◌, ◌+◌, ◌≤◌, ◌++◌, [], ℕ, List, Some, None, length, drop, IfOk, IfErr, IfSome, IfNone, OnOk, OnErr, vec_len};
 ghost use Rattle.std.specs.List.{AllByRecursion, concat, flat_map};
 ghost use Rattle.smb_head.specs.declared.first.FrameFault.{FrameFault};
 ghost use Rattle.smb_head.specs.Stream.{First, Whole, Partial, Bad, IsFault, first_of, fault_of, fault_in, frames_in, rest_in, lack_of, frame, IsMessage};
@@ -86,6 +86,8 @@ impl Frames {
     /// leaves everything as it was.
     pub fn next(&mut self) -> Result<Option<Bytes>, FrameFault>
         ensures whole { IfOk result (λ frame. IfSome frame (λ m. first_of self.old ≡ Whole m self.new)) }
+        ensures shorter { IfOk result (λ frame. IfSome frame (λ m.
+            length self.old ≡ length self.new + (4 + length m))) }
         ensures partial { IfOk result (λ frame. IfNone frame ((first_of self.old ≡ Partial) × (self.new ≡ self.old))) }
         ensures fault { IfErr result (λ fault. IsFault fault (first_of self.old)) }
         ensures err { OnErr result (self.new ≡ self.old) }
@@ -157,7 +159,8 @@ pub fn frames_of(alloc: Global, pieces: &[Bytes]) -> Result<Received, NoMemory>
     ensures fault { IfOk result (λ r. r.fault ≡ fault_in (concat pieces.now)) }
 
     // Where messages were sent as frames, one after the other, and less than one more has come, they are these messages.
-    ensures sent { IfOk result (λ r. (messages : List (List ℕ)) (rest : List ℕ) → AllByRecursion IsMessage messages → first_of rest ≡ Partial
+    ensures sent { IfOk result (λ r. (messages : List (List ℕ)) (rest : List ℕ)
+        → AllByRecursion IsMessage messages → first_of rest ≡ Partial
         → concat pieces.now ≡ flat_map frame messages ++ rest → r.frames.items ≡ messages) }
 {
     let mut held = Frames::new(alloc);

@@ -1,4 +1,3 @@
-use Rattle.std.proofs.Common.{arith}
 use Rattle.smb_field.proofs.Spelling.{written_more, written_all}
 use Rattle.smb_field.proofs.write.put_fields.Goals as goal
 

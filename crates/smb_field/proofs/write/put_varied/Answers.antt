@@ -1,4 +1,4 @@
-use Rattle.std.proofs.Common.{ap, ◌∙◌, ◌++◌, List, ℕ}
+use Rattle.std.proofs.Common.{ap, ◌∙◌, ◌++◌}
 use Rattle.smb_le.specs.Numbers.{bytes_of}
 use Rattle.smb_field.specs.declared.field.Places.{Places}
 use Rattle.smb_field.specs.Fields.{spelled}

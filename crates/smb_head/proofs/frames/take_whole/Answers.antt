@@ -1,13 +1,6 @@
-use Rattle.std.proofs.Common.{arith, ◌∙◌, ◌+◌, ◌≤◌, length, sym}
-use Rattle.smb_head.proofs.FrameLaws.{length-whole}
+use Rattle.std.proofs.Common.{◌∙◌, sym}
 use Rattle.smb_head.proofs.StreamLaws.{told-more, told-all, rest_in-whole, settled-partial, settled-bad}
 use Rattle.smb_head.proofs.frames.take_whole.Goals as goal
-
-pub loop-frame-smaller : goal.loop-frame-smaller
-loop-frame-smaller c =
-    let whole = rw c.in-Ok-Some.field-0-is at c.in-Ok-Some.ensures.whole in
-    let short : 4 + length c.next.new.self ≤ length c.loop-frame.held = length-whole c.loop-frame.held c.in-Ok-Some.frame c.next.new.self whole in
-    omega (arith, short)
 
 pub loop-frame-preserved : goal.loop-frame-preserved
 loop-frame-preserved c =
