@@ -48,7 +48,9 @@ pub struct NegotiateReply<'a> {
 /// Reads the body of a NEGOTIATE request from a whole message, header and body. The dialects are lent from the message. What
 /// stands in the fields that have one written value is not looked at.
 pub fn read_negotiate_request(part: &[u8]) -> Result<NegotiateRequest<'_>, BodyFault>
-    ensures reads { Reads 36 (λ (x : NegotiateRequest). IsNegotiateRequest x part.now) ⊥ (Strays 100 100 (2 * number_at 2 66 part.now) part.now) part.now result }
+    ensures reads { Reads 36 (λ (x : NegotiateRequest). IsNegotiateRequest x part.now) ⊥
+        (Strays 100 100 (2 * number_at 2 66 part.now) part.now)
+        part.now result }
     ensures only { (x : NegotiateRequest) → IsNegotiateRequest x part.now → IsOk result }
 {
     if part.len() < 100 {
@@ -93,7 +95,9 @@ pub fn write_negotiate_request(out: &mut Vec<u8>, x: &NegotiateRequest<'_>) -> R
 /// Reads the body of a NEGOTIATE reply from a whole message, header and body. The buffer is lent from the message. What stands in
 /// the reserved fields is not looked at.
 pub fn read_negotiate_reply(part: &[u8]) -> Result<NegotiateReply<'_>, BodyFault>
-    ensures reads { Reads 65 (λ (x : NegotiateReply). IsNegotiateReply x part.now) ⊥ (Strays 128 (number_at 2 120 part.now) (number_at 2 122 part.now) part.now) part.now result }
+    ensures reads { Reads 65 (λ (x : NegotiateReply). IsNegotiateReply x part.now) ⊥
+        (Strays 128 (number_at 2 120 part.now) (number_at 2 122 part.now) part.now)
+        part.now result }
     ensures only { (x : NegotiateReply) → IsNegotiateReply x part.now → IsOk result }
 {
     if part.len() < 128 {

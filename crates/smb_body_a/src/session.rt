@@ -33,7 +33,9 @@ pub struct SessionSetupReply<'a> {
 /// stands
 /// in the fields that have one written value is not looked at.
 pub fn read_session_setup_request(part: &[u8]) -> Result<SessionSetupRequest<'_>, BodyFault>
-    ensures reads { Reads 25 (λ (x : SessionSetupRequest). IsSessionSetupRequest x part.now) ⊥ (Strays 88 (number_at 2 76 part.now) (number_at 2 78 part.now) part.now) part.now result }
+    ensures reads { Reads 25 (λ (x : SessionSetupRequest). IsSessionSetupRequest x part.now) ⊥
+        (Strays 88 (number_at 2 76 part.now) (number_at 2 78 part.now) part.now)
+        part.now result }
     ensures only { (x : SessionSetupRequest) → IsSessionSetupRequest x part.now → IsOk result }
 {
     if part.len() < 88 {
@@ -82,7 +84,9 @@ pub fn write_session_setup_request(
 
 /// Reads the body of a SESSION_SETUP reply from a whole message, header and body. The token is lent from the message.
 pub fn read_session_setup_reply(part: &[u8]) -> Result<SessionSetupReply<'_>, BodyFault>
-    ensures reads { Reads 9 (λ (x : SessionSetupReply). IsSessionSetupReply x part.now) ⊥ (Strays 72 (number_at 2 68 part.now) (number_at 2 70 part.now) part.now) part.now result }
+    ensures reads { Reads 9 (λ (x : SessionSetupReply). IsSessionSetupReply x part.now) ⊥
+        (Strays 72 (number_at 2 68 part.now) (number_at 2 70 part.now) part.now)
+        part.now result }
     ensures only { (x : SessionSetupReply) → IsSessionSetupReply x part.now → IsOk result }
 {
     if part.len() < 72 {

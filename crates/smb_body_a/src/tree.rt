@@ -34,7 +34,9 @@ pub struct TreeConnectReply {
 /// Reads the body of a TREE_CONNECT request from a whole message, header and body. The path is lent from the message. What stands
 /// in the reserved field is not looked at.
 pub fn read_tree_connect_request(part: &[u8]) -> Result<TreeConnectRequest<'_>, BodyFault>
-    ensures reads { Reads 9 (λ (x : TreeConnectRequest). IsTreeConnectRequest x part.now) ⊥ (Strays 72 (number_at 2 68 part.now) (number_at 2 70 part.now) part.now) part.now result }
+    ensures reads { Reads 9 (λ (x : TreeConnectRequest). IsTreeConnectRequest x part.now) ⊥
+        (Strays 72 (number_at 2 68 part.now) (number_at 2 70 part.now) part.now)
+        part.now result }
     ensures only { (x : TreeConnectRequest) → IsTreeConnectRequest x part.now → IsOk result }
 {
     if part.len() < 72 {

@@ -1,3 +1,4 @@
 pub mod Chain
 pub mod Content
 pub mod SetAgain
+mod Examples

@@ -1,6 +1,6 @@
 -- Create contexts (MS-SMB2 2.2.13.2 and 2.2.14.2): a chain of entries, each with a name and data, and what this client knows of them:
 -- leases (2.2.13.2.8 and 2.2.14.2.10), durable handles (2.2.13.2.3 and 2.2.14.2.3) and reclaims (2.2.13.2.4).
-use Rattle.std.specs.Prelude.{◌≡◌, ℕ, zero, suc, ◌+◌, ◌^◌, ◌<◌, ◌==◌, nat_lt, Bool, true, false, ◌&&◌, ◌||◌, if◌then◌else◌, List, [], ◌∷◌, ◌++◌, length, take, drop, replicate, slice_range, Option, Some, None, option_map, find, Result, Ok, Err, codes, bytes_eq, ⊤}
+use Rattle.std.specs.Prelude.{◌≡◌, ℕ, zero, suc, ◌+◌, ◌^◌, ◌<◌, ◌==◌, nat_lt, Bool, true, false, ◌&&◌, ◌||◌, if◌then◌else◌, List, [], ◌∷◌, ◌++◌, length, take, drop, replicate, slice_range, Option, Some, None, option_map, is_some, find, Result, Ok, Err, codes, bytes_eq, ⊤}
 use Rattle.std.specs.List.{list_any}
 use Rattle.std.specs.Option.{option_or}
 use Rattle.smb_le.specs.Numbers.{number_at, bytes_of}
@@ -95,13 +95,21 @@ answer reply (Some contexts) = if list_any (is_short reply) contexts then Err Sh
 unfoldable pub read_of : Bool → List ℕ → Result ContextSet BodyFault
 read_of reply list = answer reply (contexts_of list)
 
+-- the lease of a context that is one of a lease
+abbrev pub lease_in : Context → Option (Key × ℕ)
+lease_in context = if is_named (codes "RqLs") context then Some (lease_of context) else None
+
+-- the open of a context that is one of a reclaim
+abbrev pub reclaim_in : Context → Option Fid
+reclaim_in context = if is_named (codes "DHnC") context then Some (fid_of context) else None
+
 -- what contexts say with one more behind them
 unfoldable pub joined : ContextSet → Context → ContextSet
 joined set context =
     record {
-      lease = option_or set.lease (if is_named (codes "RqLs") context then Some (lease_of context) else None);
+      lease = option_or set.lease (lease_in context);
       durable = set.durable || is_named (codes "DHnQ") context;
-      reclaim = option_or set.reclaim (if is_named (codes "DHnC") context then Some (fid_of context) else None);
+      reclaim = option_or set.reclaim (reclaim_in context);
     }
 
 -- the same where one of them may be short
@@ -181,6 +189,15 @@ FitsFid (Some fid) = (fid.persistent < 2 ^ 64) × (fid.volatile < 2 ^ 64)
 abbrev pub spelled_some : Bool → List Context → List ℕ
 spelled_some more [] = []
 spelled_some more (context ∷ contexts) = spelled_context more context
+
+-- the spelling of what stands behind the lease of a set
+abbrev pub spelled_behind : Bool → ContextSet → List ℕ
+spelled_behind reply set =
+    spelled_some (is_some set.reclaim) (durables reply set.durable) ++ spelled_some false (reclaims set.reclaim)
+
+-- the spellings of a lease, a durable handle and a reclaim, one after another
+abbrev pub spelled_parts : Bool → ContextSet → List ℕ
+spelled_parts reply set = spelled_some (set.durable || is_some set.reclaim) (leases set.lease) ++ spelled_behind reply set
 
 -- a CREATE request of SMB2: its body stands in the message, and its contexts say this. The body's reader lends the contexts without
 -- a look at them, so who reads such a message calls both readers.

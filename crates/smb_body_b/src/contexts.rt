@@ -1,10 +1,12 @@
 //! The contexts of CREATE (MS-SMB2 2.2.13.2 and 2.2.14.2).
 
-ghost use Rattle.std.specs.Prelude.{◌≡◌, ◌+◌, ◌^◌, ◌++◌, OnOk, OnErr, false, if◌then◌else◌, ◌≤◌, ◌<◌, ◌⊎◌, Some, None, Ok, Err, MatchOption, length, take, is_some, ◌||◌, drop, codes, bytes_eq};
-ghost use Rattle.smb_le.specs.Numbers.{number_at};
-ghost use Rattle.smb_body_b.specs.Contexts.{entry, piece, context_of, is_named, is_short, lease_of, fid_of, joined, extended, read_of, context_fields, leases, durables, reclaims, lease_content, fid_content, spelled_some, FitsLease, FitsFid, WritesContexts};
-ghost use Rattle.smb_field.specs.Structure.{WritesStructure};
+ghost use Rattle.std.specs.Prelude.{◌≡◌, ◌+◌, ◌^◌, ◌++◌, ◌≤◌, ◌<◌, ◌⊎◌, OnOk, OnErr, MatchOption, Some, None, Ok, Err, false, length, take, drop, bytes_eq, if◌then◌else◌};
 ghost use Rattle.std.specs.Option.{option_or};
+ghost use Rattle.smb_le.specs.Numbers.{number_at};
+ghost use Rattle.smb_field.specs.Structure.{WritesStructure};
+ghost use Rattle.smb_body_b.specs.Contexts.{entry, piece, context_of, is_short, lease_in, reclaim_in, joined, extended, read_of};
+ghost use Rattle.smb_body_b.specs.Contexts.{context_fields, lease_content, fid_content, leases, durables, reclaims, spelled_some};
+ghost use Rattle.smb_body_b.specs.Contexts.{spelled_behind, spelled_parts, FitsLease, FitsFid, WritesContexts};
 
 use smb_base::{Fid, Key, NoMemory};
 use smb_field::{BodyFault, Field, put_structure};
@@ -47,7 +49,10 @@ fn piece(list: &[u8], place: u16, size: u32) -> Option<&[u8]>
 /// The context at the start of a list.
 #[tactic(auto, unfolding(crate::specs::Contexts::context_of))]
 fn context_of(list: &[u8]) -> Option<Context<'_>>
-    ensures { MatchOption result (context_of list.now ≡ None) (λ c. (context_of list.now ≡ Some (entry c.name.now c.content.now)) × (c.next ≡ number_at 4 0 list.now) × (16 ≤ length list.now)) }
+    ensures { MatchOption result (context_of list.now ≡ None)
+        (λ c. (context_of list.now ≡ Some (entry c.name.now c.content.now))
+        × (c.next ≡ number_at 4 0 list.now)
+        × (16 ≤ length list.now)) }
 {
     if list.len() < 16 {
         return None;
@@ -74,7 +79,8 @@ fn is_name(name: &[u8], wanted: &[u8; 4]) -> bool
 
 /// The list from the next context on; none where it would begin in this context's 16 bytes, or behind the list.
 fn after(list: &[u8], next: u32) -> Option<&[u8]>
-    ensures { MatchOption result ((next < 16) ⊎ (length list.now < next)) (λ p. (p.now ≡ drop next list.now) × (16 ≤ next)) }
+    ensures { MatchOption result ((next < 16) ⊎ (length list.now < next))
+        (λ p. (p.now ≡ drop next list.now) × (16 ≤ next)) }
 {
     let at = next as usize;
     if at < 16 || list.len() < at {
@@ -99,7 +105,7 @@ fn is_short(context: &Context<'_>, reply: bool) -> bool
 #[tactic(auto, unfolding(crate::specs::Contexts::is_short, crate::specs::Contexts::lease_of))]
 fn first_lease(found: Option<(Key, u32)>, context: &Context<'_>, reply: bool) -> Option<(Key, u32)>
     requires { is_short reply (entry context.now.name.now context.now.content.now) ≡ false }
-    ensures { result ≡ option_or found (if is_named (codes "RqLs") (entry context.now.name.now context.now.content.now) then Some (lease_of (entry context.now.name.now context.now.content.now)) else None) }
+    ensures { result ≡ option_or found (lease_in (entry context.now.name.now context.now.content.now)) }
 {
     if found.is_some() || !is_name(context.name, b"RqLs") {
         return found;
@@ -113,7 +119,7 @@ fn first_lease(found: Option<(Key, u32)>, context: &Context<'_>, reply: bool) ->
 #[tactic(auto, unfolding(crate::specs::Contexts::is_short, crate::specs::Contexts::fid_of))]
 fn first_reclaim(found: Option<Fid>, context: &Context<'_>, reply: bool) -> Option<Fid>
     requires { is_short reply (entry context.now.name.now context.now.content.now) ≡ false }
-    ensures { result ≡ option_or found (if is_named (codes "DHnC") (entry context.now.name.now context.now.content.now) then Some (fid_of (entry context.now.name.now context.now.content.now)) else None) }
+    ensures { result ≡ option_or found (reclaim_in (entry context.now.name.now context.now.content.now)) }
 {
     if found.is_some() || !is_name(context.name, b"DHnC") {
         return found;
@@ -211,7 +217,8 @@ fn fid_content(fid: Fid) -> [u8; 16]
 /// Appends a context, with others behind it or without. For want of memory nothing is changed.
 fn put_context(out: &mut Vec<u8>, more: bool, name: [u8; 4], content: &[u8]) -> Result<(), NoMemory>
     requires { length content.now < 256 }
-    ensures { WritesStructure (context_fields (if more then 24 + length content.now else 0) (entry name content.now)) content.now out.old.items out.new.items result }
+    ensures { WritesStructure (context_fields (if more then 24 + length content.now else 0) (entry name content.now)) content.now
+        out.old.items out.new.items result }
 {
     let size = content.len() as u32;
     let next = if more { 24 + size } else { 0 };
@@ -272,7 +279,7 @@ fn put_reclaim(out: &mut Vec<u8>, reclaim: Option<Fid>) -> Result<(), NoMemory>
 
 /// Appends the contexts behind a lease. For want of memory what was there still leads.
 fn put_rest(out: &mut Vec<u8>, set: &ContextSet, reply: bool) -> Result<(), NoMemory>
-    ensures ok { OnOk result ((out.new.items ≡ out.old.items ++ (spelled_some (is_some set.now.reclaim) (durables reply set.now.durable) ++ spelled_some false (reclaims set.now.reclaim))) × FitsFid set.now.reclaim) }
+    ensures ok { OnOk result ((out.new.items ≡ out.old.items ++ spelled_behind reply set.now) × FitsFid set.now.reclaim) }
     ensures err { OnErr result (take (length out.old.items) out.new.items ≡ out.old.items) }
 {
     match put_durable(out, set.durable, reply, set.reclaim.is_some()) {
@@ -283,7 +290,8 @@ fn put_rest(out: &mut Vec<u8>, set: &ContextSet, reply: bool) -> Result<(), NoMe
 
 /// Appends contexts. For want of memory what was there still leads.
 fn put_set(out: &mut Vec<u8>, set: &ContextSet, reply: bool) -> Result<(), NoMemory>
-    ensures ok { OnOk result ((out.new.items ≡ out.old.items ++ (spelled_some (set.now.durable || is_some set.now.reclaim) (leases set.now.lease) ++ (spelled_some (is_some set.now.reclaim) (durables reply set.now.durable) ++ spelled_some false (reclaims set.now.reclaim)))) × FitsLease set.now.lease × FitsFid set.now.reclaim) }
+    ensures ok { OnOk result
+        ((out.new.items ≡ out.old.items ++ spelled_parts reply set.now) × FitsLease set.now.lease × FitsFid set.now.reclaim) }
     ensures err { OnErr result (take (length out.old.items) out.new.items ≡ out.old.items) }
 {
     match put_lease(out, set.lease, set.durable || set.reclaim.is_some()) {

@@ -60,7 +60,11 @@ pub struct CreateReply<'a> {
 /// the message is one of SMB2 only where `read_contexts` reads these too. What stands in a reserved field or in one with a single
 /// written value is not looked at.
 pub fn read_create_request(part: &[u8]) -> Result<CreateRequest<'_>, BodyFault>
-    ensures reads { Reads 57 (λ (x : CreateRequest). IsCreateRequest x part.now) ((5 < number_at 4 100 part.now) ⊎ (number_at 2 110 part.now % 2 ≢ 0)) (Strays 120 (number_at 2 108 part.now) (number_at 2 110 part.now) part.now ⊎ Strays 120 (number_at 4 112 part.now) (number_at 4 116 part.now) part.now) part.now result }
+    ensures reads { Reads 57 (λ (x : CreateRequest). IsCreateRequest x part.now)
+        ((5 < number_at 4 100 part.now) ⊎ (number_at 2 110 part.now % 2 ≢ 0))
+        (Strays 120 (number_at 2 108 part.now) (number_at 2 110 part.now) part.now
+        ⊎ Strays 120 (number_at 4 112 part.now) (number_at 4 116 part.now) part.now)
+        part.now result }
     ensures only { (x : CreateRequest) → IsCreateRequest x part.now → IsOk result }
 {
     if part.len() < 120 {
@@ -130,7 +134,9 @@ pub fn write_create_request(out: &mut Vec<u8>, x: &CreateRequest<'_>) -> Result<
 /// Reads the body of a CREATE reply from a whole message, header and body. The contexts are lent from the message; the message is
 /// one of SMB2 only where `read_contexts` reads these too. What stands in the reserved field is not looked at.
 pub fn read_create_reply(part: &[u8]) -> Result<CreateReply<'_>, BodyFault>
-    ensures reads { Reads 89 (λ (x : CreateReply). IsCreateReply x part.now) ⊥ (Strays 152 (number_at 4 144 part.now) (number_at 4 148 part.now) part.now) part.now result }
+    ensures reads { Reads 89 (λ (x : CreateReply). IsCreateReply x part.now) ⊥
+        (Strays 152 (number_at 4 144 part.now) (number_at 4 148 part.now) part.now)
+        part.now result }
     ensures only { (x : CreateReply) → IsCreateReply x part.now → IsOk result }
 {
     if part.len() < 152 {

@@ -80,7 +80,9 @@ pub struct ReadReply<'a> {
 /// Reads the body of a READ reply from a whole message, header and body. The bytes are lent from the message. What stands in a
 /// reserved field or in one with a single written value is not looked at.
 pub fn read_read_reply(part: &[u8]) -> Result<ReadReply<'_>, BodyFault>
-    ensures reads { Reads 17 (λ (x : ReadReply). IsReadReply x part.now) ⊥ (Strays 80 (slice_index part.now 66) (number_at 4 68 part.now) part.now) part.now result }
+    ensures reads { Reads 17 (λ (x : ReadReply). IsReadReply x part.now) ⊥
+        (Strays 80 (slice_index part.now 66) (number_at 4 68 part.now) part.now)
+        part.now result }
     ensures only { (x : ReadReply) → IsReadReply x part.now → IsOk result }
 {
     if part.len() < 80 {

@@ -25,7 +25,9 @@ pub struct WriteRequest<'a> {
 /// Reads the body of a WRITE request from a whole message, header and body. The bytes are lent from the message. What stands in a
 /// reserved field or in one with a single written value is not looked at.
 pub fn read_write_request(part: &[u8]) -> Result<WriteRequest<'_>, BodyFault>
-    ensures reads { Reads 49 (λ (x : WriteRequest). IsWriteRequest x part.now) ⊥ (Strays 112 (number_at 2 66 part.now) (number_at 4 68 part.now) part.now) part.now result }
+    ensures reads { Reads 49 (λ (x : WriteRequest). IsWriteRequest x part.now) ⊥
+        (Strays 112 (number_at 2 66 part.now) (number_at 4 68 part.now) part.now)
+        part.now result }
     ensures only { (x : WriteRequest) → IsWriteRequest x part.now → IsOk result }
 {
     if part.len() < 112 {

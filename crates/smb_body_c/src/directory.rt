@@ -29,7 +29,9 @@ pub struct QueryDirectoryRequest<'a> {
 /// Reads the body of a QUERY_DIRECTORY request from a whole message, header and body. The pattern is lent from the message. What
 /// stands in a reserved field or in one with a single written value is not looked at.
 pub fn read_query_directory_request(part: &[u8]) -> Result<QueryDirectoryRequest<'_>, BodyFault>
-    ensures reads { Reads 33 (λ (x : QueryDirectoryRequest). IsQueryDirectoryRequest x part.now) ⊥ (Strays 96 (number_at 2 88 part.now) (number_at 2 90 part.now) part.now) part.now result }
+    ensures reads { Reads 33 (λ (x : QueryDirectoryRequest). IsQueryDirectoryRequest x part.now) ⊥
+        (Strays 96 (number_at 2 88 part.now) (number_at 2 90 part.now) part.now)
+        part.now result }
     ensures only { (x : QueryDirectoryRequest) → IsQueryDirectoryRequest x part.now → IsOk result }
 {
     if part.len() < 96 {
@@ -93,7 +95,9 @@ pub struct BufferReply<'a> {
 /// Reads the body of a reply to QUERY_DIRECTORY or QUERY_INFO from a whole message, header and body. The buffer is lent from the
 /// message.
 pub fn read_buffer_reply(part: &[u8]) -> Result<BufferReply<'_>, BodyFault>
-    ensures reads { Reads 9 (λ (x : BufferReply). IsBufferReply x part.now) ⊥ (Strays 72 (number_at 2 66 part.now) (number_at 4 68 part.now) part.now) part.now result }
+    ensures reads { Reads 9 (λ (x : BufferReply). IsBufferReply x part.now) ⊥
+        (Strays 72 (number_at 2 66 part.now) (number_at 4 68 part.now) part.now)
+        part.now result }
     ensures only { (x : BufferReply) → IsBufferReply x part.now → IsOk result }
 {
     if part.len() < 72 {

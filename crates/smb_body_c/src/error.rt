@@ -22,7 +22,9 @@ pub struct ErrorReply<'a> {
 /// Reads the body of an error reply from a whole message, header and body. The bytes are lent from the message. What stands in a
 /// reserved field or in one with a single written value is not looked at.
 pub fn read_error_reply(part: &[u8]) -> Result<ErrorReply<'_>, BodyFault>
-    ensures reads { Reads 9 (λ (x : ErrorReply). IsErrorReply x part.now) ⊥ (Strays 72 72 (number_at 4 68 part.now) part.now) part.now result }
+    ensures reads { Reads 9 (λ (x : ErrorReply). IsErrorReply x part.now) ⊥
+        (Strays 72 72 (number_at 4 68 part.now) part.now)
+        part.now result }
     ensures only { (x : ErrorReply) → IsErrorReply x part.now → IsOk result }
 {
     if part.len() < 72 {

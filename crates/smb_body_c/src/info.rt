@@ -28,7 +28,9 @@ pub struct QueryInfoRequest {
 /// Reads the body of a QUERY_INFO request from a whole message, header and body. What stands in a reserved field or in one with a
 /// single written value is not looked at.
 pub fn read_query_info_request(part: &[u8]) -> Result<QueryInfoRequest, BodyFault>
-    ensures reads { Reads 41 (λ (x : QueryInfoRequest). IsQueryInfoRequest x part.now) (¬ IsQueried (slice_index part.now 66)) ⊥ part.now result }
+    ensures reads { Reads 41 (λ (x : QueryInfoRequest). IsQueryInfoRequest x part.now)
+        (¬ IsQueried (slice_index part.now 66)) ⊥
+        part.now result }
     ensures only { (x : QueryInfoRequest) → IsQueryInfoRequest x part.now → IsOk result }
 {
     if part.len() < 104 {
@@ -91,7 +93,10 @@ pub struct SetInfoRequest<'a> {
 /// Reads the body of a SET_INFO request from a whole message, header and body. The buffer is lent from the message. What stands
 /// in a reserved field or in one with a single written value is not looked at.
 pub fn read_set_info_request(part: &[u8]) -> Result<SetInfoRequest<'_>, BodyFault>
-    ensures reads { Reads 33 (λ (x : SetInfoRequest). IsSetInfoRequest x part.now) (slice_index part.now 66 ≢ 1) (Strays 96 (number_at 2 72 part.now) (number_at 4 68 part.now) part.now) part.now result }
+    ensures reads { Reads 33 (λ (x : SetInfoRequest). IsSetInfoRequest x part.now)
+        (slice_index part.now 66 ≢ 1)
+        (Strays 96 (number_at 2 72 part.now) (number_at 4 68 part.now) part.now)
+        part.now result }
     ensures only { (x : SetInfoRequest) → IsSetInfoRequest x part.now → IsOk result }
 {
     if part.len() < 96 {

@@ -28,7 +28,9 @@ pub struct LockRequest {
 /// Reads the body of a LOCK request from a whole message, header and body. What stands in a reserved field or in one with a
 /// single written value is not looked at.
 pub fn read_lock_request(part: &[u8]) -> Result<LockRequest, BodyFault>
-    ensures reads { Reads 48 (λ (x : LockRequest). IsLockRequest x part.now) (number_at 2 66 part.now ≢ 1) ⊥ part.now result }
+    ensures reads { Reads 48 (λ (x : LockRequest). IsLockRequest x part.now)
+        (number_at 2 66 part.now ≢ 1) ⊥
+        part.now result }
     ensures only { (x : LockRequest) → IsLockRequest x part.now → IsOk result }
 {
     if part.len() < 112 {

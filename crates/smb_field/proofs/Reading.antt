@@ -183,3 +183,11 @@ read_again size fields part small whole fit header rest long =
     written-stands (Lends (end_of_fixed size) part message) (λ (offset : ℕ). ⊤) size (places_of size part) fields (tail size part) message header rest
     small whole fit long (regrouped header (bytes_of 2 size) (spelled (places_of size part) fields) (tail size part) rest)
     (λ head is front. meets size part message head rest small is front)
+
+-- a body's spelling is as long as the fixed part and what is behind it
+pub length-spelling : (size : ℕ) (fields : List Field) (part : List ℕ) → 2 + width_of fields ≡ size - size % 2 → AllFit fields
+    → length (spelling size fields part) ≡ size - size % 2 + length (tail size part)
+unfolding spelling
+length-spelling size fields part whole fit =
+    let front = spelled (places_of size part) fields in
+    omega (arith, length-append (bytes_of 2 size) (front ++ tail size part), length-append front (tail size part), length-bytes_of 2 size, length-spelled (places_of size part) fields fit)

@@ -1,5 +1,5 @@
 -- The spelling of a structure inside a part is read again.
-use Rattle.std.proofs.Common.{◌≡◌, ℕ, ◌<◌, ◌≤◌, List, [], ◌++◌, length, refl, ap, sym, arith, append_assoc, length-append}
+use Rattle.std.proofs.Common.{◌≡◌, ℕ, ◌+◌, ◌<◌, ◌≤◌, List, [], ◌++◌, length, refl, ap, sym, arith, append_assoc, length-append}
 use Rattle.std.specs.Prelude.{⊤}
 use Rattle.smb_field.specs.declared.field.Field.{Field}
 use Rattle.smb_field.specs.Fields.{width_of, spelled, AllFit}
@@ -30,3 +30,10 @@ read_again_in fields part small fit rest =
       omega (arith, ap length is, length-append (spelled places fields) (part ++ rest)),
       spelled-holds (Lends (width_of fields) part bytes) (λ (offset : ℕ). ⊤) (width_of fields) places fields 0 bytes [] (part ++ rest) meets fit refl is,
     )
+
+-- and is as long as the fields and the bytes behind them
+pub length-spelling_in : (fields : List Field) (part : List ℕ) → AllFit fields → length (spelling_in fields part) ≡ width_of fields + length part
+unfolding spelling_in
+length-spelling_in fields part fit =
+    let front = spelled (places_in fields part) fields in
+    omega (arith, length-append front part, length-spelled (places_in fields part) fields fit)

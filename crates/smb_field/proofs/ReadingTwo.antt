@@ -2,11 +2,12 @@
 use Rattle.std.proofs.Common.{◌≡◌, ℕ, ◌+◌, ◌-◌, ◌%◌, ◌^◌, ◌<◌, ◌≤◌, List, [], ◌∷◌, ◌++◌, length, refl, ap, sym, subst, ◌∙◌, arith, append_assoc, length-append, Bool, if◌then◌else◌, replicate}
 use Rattle.std.proofs.lemmas.List.{length-replicate}
 use Rattle.smb_le.specs.Numbers.{bytes_of}
+use Rattle.smb_le.proofs.NumberLaws.{length-bytes_of}
 use Rattle.smb_field.specs.declared.field.Field.{Field}
 use Rattle.smb_field.specs.Fields.{width_of, spelled, AllFit}
 use Rattle.smb_field.specs.Body.{end_of_fixed, Lends, named, tail}
 use Rattle.smb_field.specs.TwoParts.{second_place, places_of_two, tail_of_two, spelling_of_two, IsTwoReadAgain}
-use Rattle.smb_field.proofs.Reading.{Meets, not-empty, named-le, part-stands, meets, written-stands, regrouped}
+use Rattle.smb_field.proofs.Reading.{Meets, not-empty, named-le, part-stands, meets, written-stands, regrouped, length-spelled}
 
 -- a part stands at a place behind the fixed part, and at the offset that names it
 pub lent-at : (behind at : ℕ) (part message head rest : List ℕ) → message ≡ head ++ (part ++ rest) → at ≡ length head → behind ≤ at
@@ -74,3 +75,12 @@ two_read_again size fields first second small whole short fit header rest long =
     (tail_of_two size first second) message header rest small whole fit long
     (regrouped header (bytes_of 2 size) (spelled places fields) (tail_of_two size first second) rest)
     (λ head is front. meets_two size first second message head rest small short is front)
+
+-- and is as long as the fixed part and what is behind it
+pub length-spelling_of_two : (size : ℕ) (fields : List Field) (first second : List ℕ) → 2 + width_of fields ≡ size - size % 2 → AllFit fields
+    → length (spelling_of_two size fields first second) ≡ size - size % 2 + length (tail_of_two size first second)
+unfolding spelling_of_two
+length-spelling_of_two size fields first second whole fit =
+    let front = spelled (places_of_two size first second) fields in
+    let behind = tail_of_two size first second in
+    omega (arith, length-append (bytes_of 2 size) (front ++ behind), length-append front behind, length-bytes_of 2 size, length-spelled (places_of_two size first second) fields fit)

@@ -47,9 +47,13 @@ unfoldable pub IsReadAgain : ℕ → List Field → List ℕ → Type 0
 IsReadAgain size fields part =
     (header rest : List ℕ) → length header ≡ 64 → IsBody size fields part (header ++ (spelling size fields part ++ rest))
 
--- a writer appends a body's spelling, which is read again, and for want of memory changes nothing
+-- a writer appends a body's spelling, which is read again and is as long as the fixed part and what is behind it, and for want of
+-- memory changes nothing
 abbrev pub WritesBody : {A E : Type 0} → ℕ → List Field → List ℕ → List ℕ → List ℕ → Result A E → Type 0
-WritesBody size fields part old new (Ok done) = (new ≡ old ++ spelling size fields part) × IsReadAgain size fields part
+WritesBody size fields part old new (Ok done) =
+    (new ≡ old ++ spelling size fields part)
+    × IsReadAgain size fields part
+    × (length (spelling size fields part) ≡ size - size % 2 + length (tail size part))
 WritesBody size fields part old new (Err fault) = new ≡ old
 
 -- what a reader of a body answers: a value that stands in the message, or the first that holds of: the message is shorter than

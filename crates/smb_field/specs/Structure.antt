@@ -1,6 +1,6 @@
 -- A structure inside a variable part, as a create context or a class of information: fields from its own start on, and bytes behind
 -- them. It has no structure size, and its offsets count from its start.
-use Rattle.std.specs.Prelude.{◌≡◌, ℕ, ◌≤◌, List, ◌++◌, length, ⊤, Result, Ok, Err}
+use Rattle.std.specs.Prelude.{◌≡◌, ℕ, ◌+◌, ◌≤◌, List, ◌++◌, length, ⊤, Result, Ok, Err}
 use Rattle.smb_field.specs.declared.field.Field.{Field}
 use Rattle.smb_field.specs.declared.field.Places.{Places}
 use Rattle.smb_field.specs.Fields.{width_of, Holds, spelled}
@@ -23,7 +23,11 @@ IsStructure fields part bytes =
 unfoldable pub IsReadAgainIn : List Field → List ℕ → Type 0
 IsReadAgainIn fields part = (rest : List ℕ) → IsStructure fields part (spelling_in fields part ++ rest)
 
--- a writer appends the spelling, which is read again, and for want of memory changes nothing
+-- a writer appends the spelling, which is read again and is as long as the fields and the bytes behind them, and for want of memory
+-- changes nothing
 abbrev pub WritesStructure : {A E : Type 0} → List Field → List ℕ → List ℕ → List ℕ → Result A E → Type 0
-WritesStructure fields part old new (Ok done) = (new ≡ old ++ spelling_in fields part) × IsReadAgainIn fields part
+WritesStructure fields part old new (Ok done) =
+    (new ≡ old ++ spelling_in fields part)
+    × IsReadAgainIn fields part
+    × (length (spelling_in fields part) ≡ width_of fields + length part)
 WritesStructure fields part old new (Err fault) = new ≡ old

@@ -1,5 +1,5 @@
 -- A body with two variable parts, as a CREATE request has (MS-SMB2 2.2.13): the second one stands at a multiple of 8.
-use Rattle.std.specs.Prelude.{◌≡◌, ℕ, ◌+◌, ◌-◌, ◌*◌, ◌/◌, ◌≤◌, ◌==◌, if◌then◌else◌, List, ◌++◌, length, replicate, Result, Ok, Err}
+use Rattle.std.specs.Prelude.{◌≡◌, ℕ, ◌+◌, ◌-◌, ◌*◌, ◌/◌, ◌%◌, ◌≤◌, ◌==◌, if◌then◌else◌, List, ◌++◌, length, replicate, Result, Ok, Err}
 use Rattle.smb_le.specs.Numbers.{number_at, bytes_of}
 use Rattle.smb_field.specs.declared.field.Field.{Field}
 use Rattle.smb_field.specs.declared.field.Places.{Places}
@@ -40,8 +40,11 @@ IsTwoReadAgain size fields first second =
     (header rest : List ℕ) → length header ≡ 64
     → IsBodyOfTwo size fields first second (header ++ (spelling_of_two size fields first second ++ rest))
 
--- a writer appends the spelling, which is read again, and for want of memory changes nothing
+-- a writer appends the spelling, which is read again and is as long as the fixed part and what is behind it, and for want of
+-- memory changes nothing
 abbrev pub WritesBodyOfTwo : {A E : Type 0} → ℕ → List Field → List ℕ → List ℕ → List ℕ → List ℕ → Result A E → Type 0
 WritesBodyOfTwo size fields first second old new (Ok done) =
-    (new ≡ old ++ spelling_of_two size fields first second) × IsTwoReadAgain size fields first second
+    (new ≡ old ++ spelling_of_two size fields first second)
+    × IsTwoReadAgain size fields first second
+    × (length (spelling_of_two size fields first second) ≡ size - size % 2 + length (tail_of_two size first second))
 WritesBodyOfTwo size fields first second old new (Err fault) = new ≡ old

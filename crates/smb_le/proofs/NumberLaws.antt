@@ -1,10 +1,10 @@
 -- What the layers above need of numbers in bytes, over every width and offset: a number that was written is read, one beside it
 -- stays, a layout has its length, and a number reads only its own bytes.
-use Rattle.std.proofs.Common.{◌≡◌, ◌⊎◌, inl, inr, ℕ, zero, suc, ◌+◌, ◌-◌, ◌*◌, ◌^◌, ◌<◌, ◌≤◌, List, [], ◌∷◌, ◌++◌, length, take, drop, get_or, slice_index, refl, ap, sym, ◌∙◌, arith, append_assoc, length-append, length-take, length-drop, add-zero, zero-add, All}
-use Rattle.std.proofs.lemmas.List.{append-nil, take-append-le, drop_at, take_at, drop_all, drop-drop, get_or-drop, get_or-take, length-take-le}
+use Rattle.std.proofs.Common.{◌≡◌, ℕ, zero, suc, ◌+◌, ◌-◌, ◌^◌, ◌<◌, ◌≤◌, List, [], ◌++◌, length, take, drop, slice_index, refl, ap, sym, ◌∙◌, arith, length-append, length-take, length-drop, add-zero}
+use Rattle.std.proofs.lemmas.List.{append-nil, drop_at, take_at, drop_all, drop-drop, get_or-drop, length-take-le}
 use borrow.Rule.Slice.PartMut.{put_mid}
 use Rattle.byteorder.specs.Endian.{little_from, little_bytes}
-use Rattle.byteorder.specs.Numbers.{little_number-reads_back, little_from-append, little_from-lt, little_from-take, length-bytes_low_first}
+use Rattle.byteorder.specs.Numbers.{little_number-reads_back, little_from-lt, little_from-take, length-bytes_low_first}
 use Rattle.smb_le.specs.Numbers.{number_at, bytes_of, overwritten}
 
 -- the number at an offset is the one at the start of the bytes from there

@@ -1,5 +1,5 @@
 -- Turns of a link in memory, none of which is an empty piece.
-use Rattle.std.proofs.Common.{◌≡◌, ◌≤◌, ℕ, zero, suc, ◌+◌, List, [], ◌∷◌, true, drop, length, refl, ap, sym, ◌∙◌, add-one, arith}
+use Rattle.std.proofs.Common.{◌≡◌, ◌≤◌, ℕ, zero, suc, ◌+◌, List, [], ◌∷◌, drop, length, refl, ap, sym, ◌∙◌, add-one, arith}
 use Rattle.std.proofs.lemmas.List.{drop_all}
 use Rattle.std.specs.Prelude.{filter}
 use Rattle.smb_link.specs.declared.list_link.Given.{Given}

@@ -1,5 +1,5 @@
 -- Counts of how often something happened, in 64 bits.
-use Rattle.std.specs.Prelude.{◌≤◌, ◌<◌, ◌≡◌, ℕ, ◌+◌, ◌-◌, ◌^◌, Bool, min, if◌then◌else◌}
+use Rattle.std.specs.Prelude.{◌≤◌, ℕ, ◌+◌, ◌-◌, ◌^◌, Bool, min, if◌then◌else◌}
 
 -- a count of calls that answered so: one more where this one did, and at its greatest value it stays
 abbrev pub counted : ℕ → Bool → ℕ

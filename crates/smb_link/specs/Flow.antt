@@ -1,5 +1,5 @@
 -- What one read of a source and one write to a sink do to the bytes, where these are told.
-use Rattle.std.specs.Prelude.{◌≡◌, ◌≢◌, ◌≤◌, ◌<◌, ℕ, ◌++◌, List, [], length, take, drop, Option, Some, None, option_map, IfSome, Result, Ok, Err, Bool, true, false, ◌&&◌, nat_lt, ◌==◌, IfOk}
+use Rattle.std.specs.Prelude.{◌≡◌, ◌≤◌, ◌<◌, ℕ, ◌++◌, List, [], length, take, drop, Option, option_map, IfSome, Result, Ok, Err, Bool, false, ◌&&◌, nat_lt, ◌==◌}
 use Rattle.smb_link.specs.declared.faults.Failed.{Failed}
 
 -- what is left after a read: the bytes that it gave are taken off, and a failed one takes nothing

@@ -1,5 +1,5 @@
 -- What a link that gives a list of turns answers.
-use Rattle.std.specs.Prelude.{◌≡◌, ◌<◌, ◌≤◌, ℕ, List, [], ◌∷◌, ◌++◌, Bool, true, false, take, drop, length, min, nat_le, if◌then◌else◌}
+use Rattle.std.specs.Prelude.{◌≡◌, ◌<◌, ℕ, List, [], ◌∷◌, Bool, true, false, take, drop, length, min, nat_le, if◌then◌else◌}
 use Rattle.smb_link.specs.declared.event.Event.{Event}
 use Rattle.smb_link.specs.declared.list_link.Given.{Given}
 use Rattle.smb_link.specs.declared.list_link.Given.TheVariants as given

@@ -1,5 +1,5 @@
 -- What the sources, sinks and clock in memory hold, as contracts see them.
-use Rattle.std.specs.Prelude.{◌≡◌, ℕ, ◌+◌, ◌-◌, ◌^◌, List, [], ◌∷◌, ◌++◌, Bool, ◌==◌, min, length, take, drop, Result, Ok, Err}
+use Rattle.std.specs.Prelude.{ℕ, List, [], ◌∷◌, Bool, ◌==◌}
 use Rattle.std.specs.List.{list_any}
 
 -- a source in memory: the bytes that are left, the numbers of the reads that are to fail, and how many reads there were and failed
