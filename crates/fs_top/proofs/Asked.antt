@@ -1,12 +1,12 @@
 -- A ping that was sent.
-use Rattle.std.proofs.Common.{◌≡◌, ◌⊎◌, inl, inr, ℕ, Bool, true, false, List, [], ◌∷◌, ◌++◌, refl, ap, sym, ◌∙◌, subst, append_assoc, arith}
+use Rattle.std.proofs.Common.{◌≡◌, ◌⊎◌, inl, inr, ℕ, Bool, List, [], ◌∷◌, ◌++◌, refl, ap, ◌∙◌, append_assoc, arith}
 use Rattle.smb_link.specs.declared.event.Event.{Event}
 use Rattle.smb_link.specs.declared.event.Event.TheVariants.{Sent, Joined, Cut}
 use Rattle.fs_top.specs.declared.ending.Ending.{Ending}
 use Rattle.fs_top.specs.declared.ending.Ending.TheVariants as ending
 use Rattle.fs_top.specs.Came.{Seen, Came}
 use Rattle.fs_top.specs.Request.{ping_frame}
-use Rattle.fs_top.specs.Run.{opening, AskedEnds, PingEnds}
+use Rattle.fs_top.specs.Run.{opening, PingEnds}
 use Rattle.fs_top.specs.Tale.{WaitEnds, HeardBy, Heard}
 use Rattle.fs_top.specs.Verdict.{EndsWait}
 use Rattle.fs_top.proofs.CameLaws.{came_then}

@@ -1,10 +1,9 @@
 -- Events at a link, one call after another.
-use Rattle.std.proofs.Common.{◌≡◌, ℕ, Bool, true, false, not, List, [], ◌∷◌, ◌++◌, Option, Some, None, Result, Ok, Err, refl, ap, sym, ◌∙◌, append_assoc, rules}
+use Rattle.std.proofs.Common.{◌≡◌, ℕ, Bool, true, false, List, [], ◌∷◌, ◌++◌, Option, Some, None, Result, Ok, Err, refl, ap, sym, ◌∙◌, append_assoc}
 use Rattle.std.proofs.lemmas.List.{append-nil}
 use Rattle.smb_link.specs.Count.{counted}
 use Rattle.smb_link.specs.Story.{told, is_failed, connect_cuts, connect_events, send_events, receive_events, is_closed, is_quiet}
 use Rattle.smb_link.specs.declared.event.Event.{Event}
-use Rattle.smb_link.specs.declared.event.Event.TheVariants as event
 use Rattle.smb_link.specs.declared.faults.LinkFail.{LinkFail}
 use Rattle.smb_link.specs.declared.faults.LinkFail.TheVariants as fail
 use Rattle.smb_link.specs.declared.faults.Got as answer

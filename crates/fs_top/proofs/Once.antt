@@ -1,5 +1,5 @@
 -- No two endings of a run have their causes in the same words and the same events.
-use Rattle.std.proofs.Common.{◌≡◌, ◌⊎◌, ◌==◌, ◌&&◌, inl, inr, ℕ, Bool, true, false, List, [], ◌∷◌, ◌++◌, Option, Some, None, Result, Ok, Err, MatchBool, refl, ap, sym, ◌∙◌, subst}
+use Rattle.std.proofs.Common.{◌≡◌, ◌==◌, ◌&&◌, inl, inr, ℕ, Bool, true, false, List, [], ◌∷◌, ◌++◌, Option, Some, None, Result, Ok, Err, MatchBool, refl, ap, sym, ◌∙◌, subst}
 use Rattle.std.proofs.lemmas.List.{append_cancel_left}
 use Rattle.smb_link.specs.declared.event.Event.{Event}
 use Rattle.smb_link.specs.declared.event.Event.TheVariants.{Sent, Got, Quiet, Joined, NotJoined, Cut}
@@ -16,9 +16,9 @@ use Rattle.fs_top.specs.declared.ending.Ending.{Ending}
 use Rattle.fs_top.specs.declared.ending.Ending.TheVariants as ending
 use Rattle.fs_top.specs.declared.ending.Kind.TheVariants as kind
 use Rattle.fs_top.specs.Request.{ping_frame}
-use Rattle.fs_top.specs.Run.{opening, AskedEnds, PingEnds, ArePing, Causes}
+use Rattle.fs_top.specs.Run.{opening, AskedEnds, ArePing, Causes}
 use Rattle.fs_top.specs.Tale.{bytes_got, FirstEnds, LastEnds, WaitEnds}
-use Rattle.fs_top.specs.Verdict.{is_reply, greeting_of, answer_of, unless_more, GreetingEnds, RefusalEnds, ReplyEnds, PartEnds, MessageEnds}
+use Rattle.fs_top.specs.Verdict.{is_reply, greeting_of, answer_of, unless_more, GreetingEnds, RefusalEnds, ReplyEnds, PartEnds}
 
 -- two replies that stand in one message say the same
 greeting_once : (part : List ℕ) (x y : NegotiateReply) → IsNegotiateReply x part → IsNegotiateReply y part → (x.dialect ≡ y.dialect) × (greeting_of x ≡ greeting_of y)

@@ -1,7 +1,7 @@
 -- Bytes that are less than a frame.
-use Rattle.std.proofs.Common.{◌≡◌, ◌<◌, ◌≤◌, ◌+◌, ◌-◌, ℕ, List, [], length, nat_lt, slice_index, refl, arith}
+use Rattle.std.proofs.Common.{◌≡◌, ◌<◌, ◌+◌, ℕ, List, [], length, refl, arith}
 use Rattle.smb_head.specs.declared.first.TheConstants.{MAX_FRAME}
-use Rattle.smb_head.specs.Stream.{First, Partial, first_of, frame_length, lack, lack_of}
+use Rattle.smb_head.specs.Stream.{Partial, first_of, lack, lack_of}
 
 pub first_of-nothing : first_of [] ≡ Partial
 unfolding first_of

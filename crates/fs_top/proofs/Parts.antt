@@ -1,9 +1,9 @@
 -- The first part of a frame that has a header.
-use Rattle.std.proofs.Common.{◌≡◌, ◌≤◌, ◌<◌, ◌+◌, ◌*◌, ℕ, List, Bool, true, false, cond, nat_lt, length, take, drop, inl, inr, Option, Some, None, refl, sym, ap, ◌∙◌, arith}
+use Rattle.std.proofs.Common.{◌≡◌, ◌≤◌, ℕ, List, false, nat_lt, length, Option, Some, None, refl, ◌∙◌, arith}
 use Rattle.std.proofs.lemmas.Bool.Decides.{nat_tests}
 use Rattle.std.proofs.lemmas.List.{length-take-le}
 use Rattle.smb_le.specs.Numbers.{number_at}
-use Rattle.smb_chain.specs.Parts.{Step, Only, Then, Bad, step_of, step_at, step_from, is_bad_next}
+use Rattle.smb_chain.specs.Parts.{step_of, step_at, step_from}
 use denote.Ref.{Bor}
 
 long_at : (next : ℕ) (m part : List ℕ) (rest : Option (Bor (List ℕ))) → 64 ≤ length m → step_from part rest ≡ step_at next m → 64 ≤ length part

@@ -1,10 +1,10 @@
 -- What happens at the link in one ping, and which ending it has.
-use Rattle.std.specs.Prelude.{◌≡◌, ◌<◌, ℕ, ◌+◌, ◌⊎◌, Bool, true, false, List, [], ◌∷◌, ◌++◌, map, if◌then◌else◌}
+use Rattle.std.specs.Prelude.{◌≡◌, ◌<◌, ℕ, ◌+◌, List, [], ◌∷◌, ◌++◌}
 use Rattle.smb_link.specs.declared.event.Event.{Event}
 use Rattle.smb_link.specs.declared.event.Event.TheVariants.{Sent, Got, Quiet, Joined, NotJoined, Cut}
 use Rattle.smb_head.specs.Stream.{First, Partial, Whole, Bad, first_of}
 use Rattle.fs_top.specs.declared.ending.Ending.{Ending}
-use Rattle.fs_top.specs.declared.ending.Ending.TheVariants.{Words, Memory, Frame, Connects, Cuts}
+use Rattle.fs_top.specs.declared.ending.Ending.TheVariants.{Memory, Frame, Cuts}
 use Rattle.fs_top.specs.declared.ending.Kind.TheVariants.{Length}
 use Rattle.fs_top.specs.Came.{Seen, Came}
 use Rattle.fs_top.specs.Verdict.{MessageEnds}

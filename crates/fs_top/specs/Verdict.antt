@@ -1,5 +1,5 @@
 -- What the messages of the first frame say to a NEGOTIATE request with message id 0 (MS-SMB2 3.2.5.2).
-use Rattle.std.specs.Prelude.{◌≡◌, ◌==◌, ◌&&◌, ◌⊎◌, ℕ, List, Bool, true, false, if◌then◌else◌, MatchBool, Option, Some, None, Result, Ok, Err, bit_and}
+use Rattle.std.specs.Prelude.{◌≡◌, ◌==◌, ◌&&◌, ◌⊎◌, ℕ, List, Bool, if◌then◌else◌, MatchBool, Option, Some, None, Result, Ok, Err, bit_and}
 use Rattle.smb_head.specs.declared.head.Head.{Head}
 use Rattle.smb_head.specs.declared.head.HeadFault.{HeadFault}
 use Rattle.smb_head.specs.Header.{head_of}

@@ -1,11 +1,10 @@
-use Rattle.std.proofs.Common.{◌≡◌, ◌≢◌, ◌<◌, ◌≤◌, ◌+◌, ◌-◌, ◌∙◌, ℕ, List, [], ◌∷◌, ◌++◌, Some, None, inl, inr, take, drop, length, length-append, length-take, refl, sym, ap, subst, arith, rules}
+use Rattle.std.proofs.Common.{◌≡◌, ◌≢◌, ◌+◌, ◌∙◌, ℕ, List, [], ◌∷◌, ◌++◌, inl, inr, take, drop, length, length-append, length-take, sym, ap, subst, arith}
 use Rattle.smb_link.specs.declared.event.Event.TheVariants.{Got}
 use Rattle.std.proofs.lemmas.List.{take-append-le, length-take-le}
 use Rattle.smb_head.specs.Stream.{first_of, Partial}
 use Rattle.fs_top.specs.declared.ending.Ending.{Ending}
 use Rattle.fs_top.specs.Came.{seen_by, Came}
 use Rattle.fs_top.specs.Tale.{FirstEnds, Heard}
-use Rattle.fs_top.proofs.CameLaws.{came_receive}
 use Rattle.fs_top.proofs.Partial.{first_of-nothing, partial_short, partial_lacks}
 use Rattle.fs_top.proofs.Waiting.{Waiting, waiting_none, waiting_few, waiting_undecided, waiting_got, waiting_silence, heard_got, heard_silence, heard_cut, heard_memory}
 use Rattle.fs_top.proofs.listen.listen.Goals as goal

@@ -1,4 +1,4 @@
-use Rattle.std.proofs.Common.{◌≡◌, ◌+◌, ◌-◌, ◌∙◌, List, ℕ, Ok, ap, take, drop, length, length-drop, arith, rules}
+use Rattle.std.proofs.Common.{◌≡◌, ◌-◌, ◌∙◌, List, ℕ, ap, take, drop, length, length-drop, arith, rules}
 use Rattle.std.proofs.lemmas.List.{take_all}
 use Rattle.fs_top.specs.Printing.{held_by, gained}
 use Rattle.fs_top.proofs.Printed.{took_more, counted-stalled}

@@ -1,4 +1,4 @@
-use Rattle.std.proofs.Common.{◌≡◌, true, rules}
+use Rattle.std.proofs.Common.{◌≡◌, true}
 use Rattle.fs_top.proofs.Ports.{port_found, port_read, port_begins}
 use Rattle.fs_top.proofs.words.port_of.Goals as goal
 
