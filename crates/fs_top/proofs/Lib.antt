@@ -8,3 +8,4 @@ pub mod Asked
 pub mod Caused
 pub mod Once
 pub mod ByCountsLaws
+pub mod Examples
