@@ -2,6 +2,8 @@
 //! header.
 #![tactic(auto)]
 
+#[cfg(test)]
+mod captured;
 mod close;
 mod contexts;
 mod create;

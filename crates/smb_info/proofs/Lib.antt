@@ -1,0 +1,4 @@
+pub mod EntryLaws
+pub mod EntryWriting
+mod Examples
+pub mod Listing

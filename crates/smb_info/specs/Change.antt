@@ -1,0 +1,42 @@
+-- What a file is told to become (MS-FSCC 2.4): each field of a class, in the order of the table there.
+use Rattle.std.specs.Prelude.{ℕ, List, [], ◌∷◌, length}
+use Rattle.smb_field.specs.declared.field.Field.{Field}
+use Rattle.smb_field.specs.declared.field.Field.TheVariants.{U8, U32, U64, Any8, Any16, Any32, Any64, Follows}
+use Rattle.smb_field.specs.Structure.{IsStructure}
+use Rattle.smb_info.specs.declared.change.EndOfFile.{EndOfFile}
+use Rattle.smb_info.specs.declared.change.Disposition.{Disposition}
+use Rattle.smb_info.specs.declared.change.Rename.{Rename}
+use Rattle.smb_info.specs.declared.change.Link.{Link}
+
+-- FileEndOfFileInformation: the end of the file
+abbrev pub end_of_file : EndOfFile → List Field
+end_of_file x = U64 x.end_of_file ∷ []
+
+-- the information is this
+abbrev pub IsEndOfFile : EndOfFile → List ℕ → Type 0
+IsEndOfFile x info = IsStructure (end_of_file x) [] info
+
+-- FileDispositionInformation: whether the file is to be deleted
+abbrev pub disposition : Disposition → List Field
+disposition x = U8 x.delete_pending ∷ []
+
+-- the information is this
+abbrev pub IsDisposition : Disposition → List ℕ → Type 0
+IsDisposition x info = IsStructure (disposition x) [] info
+
+-- FileRenameInformation: whether a file of that name is replaced, seven reserved bytes, the root directory, the name's length, and
+-- the name behind it
+abbrev pub rename : Rename → List Field
+rename x = U8 x.replace ∷ Any8 0 ∷ Any16 0 ∷ Any32 0 ∷ Any64 0 ∷ U32 (length x.name.now) ∷ Follows ∷ []
+
+-- the information is this
+abbrev pub IsRename : Rename → List ℕ → Type 0
+IsRename x info = IsStructure (rename x) x.name.now info
+
+-- FileLinkInformation: the same fields
+abbrev pub link : Link → List Field
+link x = U8 x.replace ∷ Any8 0 ∷ Any16 0 ∷ Any32 0 ∷ Any64 0 ∷ U32 (length x.name.now) ∷ Follows ∷ []
+
+-- the information is this
+abbrev pub IsLink : Link → List ℕ → Type 0
+IsLink x info = IsStructure (link x) x.name.now info

@@ -1,0 +1,5 @@
+pub mod Attributes
+pub mod Change
+pub mod Directory
+pub mod Reading
+pub mod Space
