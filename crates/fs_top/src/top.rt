@@ -15,7 +15,16 @@ use crate::words::read_ping;
 use smb_link::{Clock, Link, Sink, Source};
 use std::alloc::Global;
 
-/// Runs the program on its words, and answers its exit status.
+/// Runs the program on its words, prints what comes of it as one line, and answers the exit status.
+///
+/// The words are `ping HOST PORT`: one connect, one NEGOTIATE request that offers SMB 2.1 with the seed as client id (MS-SMB2 2.2.3), and
+/// the first whole frame that comes. The source and the clock are not used.
+///
+/// # Statuses
+///
+/// 0: the server took the dialect. 1: the words are others, and nothing was done. 3: memory ran out. 4: the server took another dialect, or
+/// refused. 5: the first frame is no reply to the request. 6: the connection could not be made, was lost, or was silent for 300 receives in
+/// a row. 8: the sink refused the line; what it took is a front of it.
 pub fn smbfs<S: Source, K: Sink, L: Link, C: Clock>(
     alloc: Global,
     words: &Vec<String>,
