@@ -3,6 +3,8 @@
 #![tactic(auto)]
 
 mod attributes;
+#[cfg(test)]
+mod captured;
 mod change;
 mod entries;
 mod fault;
