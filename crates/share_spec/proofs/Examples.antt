@@ -1,0 +1,93 @@
+-- The definitions at shares whose answers are known.
+use Rattle.std.proofs.Common.{◌≡◌, ℕ, true, false, [], ◌∷◌, refl, None, List}
+use Rattle.std.specs.Prelude.{codes}
+use Rattle.share_spec.specs.declared.request.Who.{Who}
+use Rattle.share_spec.specs.declared.request.RepBody.TheVariants as body
+use Rattle.share_spec.specs.declared.request.Req.{Req}
+use Rattle.share_spec.specs.declared.request.Req.TheVariants as req
+use Rattle.share_spec.specs.declared.share.Share.{Share}
+use Rattle.share_spec.specs.Names.{components, same_name}
+use Rattle.share_spec.specs.State.{fresh_share}
+use Rattle.share_spec.specs.Reply.{of_status, fid_of, opened_reply}
+use Rattle.share_spec.specs.Step.{step_of}
+use Rattle.share_spec.specs.Cut.{after_cut}
+use Rattle.share_spec.specs.Breaks.{lowered}
+use Rattle.share_spec.specs.PlainShare.{shown}
+
+us : Who
+us = record { 0 = 0 }
+
+-- `d\a` has two components, and `A` is `a` on a folding share alone
+two_components : components (codes "d\\a") ≡ codes "d" ∷ codes "a" ∷ []
+unfolding components
+two_components = refl
+
+folded_names : same_name true (codes "A") (codes "a") ≡ true
+folded_names = refl
+
+other_names : same_name false (codes "A") (codes "a") ≡ false
+other_names = refl
+
+-- a Create for reading that shares everything
+abbrev create : List ℕ → ℕ → Req
+create path disposition = req.Create path 1 7 disposition 0 0x80 None false
+
+-- the share once a file `a` was made: node 2, entry 1, open 1
+abbrev after_make : Share
+after_make = (step_of None (fresh_share 100 false) (record { 0 = 0 }) (create (codes "a") 2)).1
+
+-- it is made, and told as created
+a_file_is_made : (step_of None (fresh_share 100 false) (record { 0 = 0 }) (create (codes "a") 2)).0 ≡ opened_reply 1 2 0 0x80
+unfolding components
+a_file_is_made = refl
+
+-- it is not made twice
+a_file_is_there : (step_of None after_make (record { 0 = 0 }) (create (codes "a") 2)).0 ≡ of_status 0xC0000035
+unfolding components
+a_file_is_there = refl
+
+-- OPEN of what is missing
+a_file_is_missing : (step_of None after_make (record { 0 = 0 }) (create (codes "b") 1)).0 ≡ of_status 0xC0000034
+unfolding components
+a_file_is_missing = refl
+
+-- beneath a file
+no_path : (step_of None after_make (record { 0 = 0 }) (create (codes "a\\b") 1)).0 ≡ of_status 0xC000003A
+unfolding components
+no_path = refl
+
+-- what a Query of the open tells
+a_query : (step_of None after_make (record { 0 = 0 }) (req.Query (fid_of 1))).0
+    ≡ record { status = record { 0 = 0 }; body = body.Info false 0 false 1 false 2 }
+unfolding components
+a_query = refl
+
+-- the open is of client 0 alone
+a_foreign_query : (step_of None after_make (record { 0 = 1 }) (req.Query (fid_of 1))).0 ≡ of_status 0xC0000128
+unfolding components
+a_foreign_query = refl
+
+-- a Close ends it, and the file stays
+opens_after_close : (step_of None after_make (record { 0 = 0 }) (req.Close (fid_of 1))).1.opens ≡ []
+unfolding components
+opens_after_close = refl
+
+nodes_after_close : (step_of None after_make (record { 0 = 0 }) (req.Close (fid_of 1))).1.nodes ≡ after_make.nodes
+unfolding components
+nodes_after_close = refl
+
+-- a cut ends it as the Close does
+cut_as_close : after_cut after_make ≡ (step_of None after_make (record { 0 = 0 }) (req.Close (fid_of 1))).1
+unfolding components
+cut_as_close = refl
+
+-- RWH without W is RH, and without R is none
+lowered_to_RH : lowered 7 4 ≡ 3
+lowered_to_RH = refl
+
+lowered_to_none : lowered 7 1 ≡ 0
+lowered_to_none = refl
+
+-- replies are the same whatever the file id
+same_replies : shown (opened_reply 1 2 0 0x80) ≡ shown (opened_reply 9 2 0 0x80)
+same_replies = refl

@@ -1,0 +1,12 @@
+pub mod Names
+pub mod Built
+pub mod State
+pub mod Place
+pub mod Reply
+pub mod Create
+pub mod Close
+pub mod Query
+pub mod Step
+pub mod Cut
+pub mod Breaks
+pub mod PlainShare

@@ -1,0 +1,42 @@
+-- The share as a client without leases, durable opens and connections sees it, and when two replies are the same.
+use Rattle.std.specs.Prelude.{◌≡◌, true, false, [], map, Some, None}
+use Rattle.share_spec.specs.declared.opens.Open.{Open}
+use Rattle.share_spec.specs.declared.request.Who.{Who}
+use Rattle.share_spec.specs.declared.request.Rep.{Rep}
+use Rattle.share_spec.specs.declared.request.RepBody.{RepBody}
+use Rattle.share_spec.specs.declared.request.RepBody.TheVariants as body
+use Rattle.share_spec.specs.declared.request.Req.{Req}
+use Rattle.share_spec.specs.declared.request.Req.TheVariants as req
+use Rattle.share_spec.specs.declared.share.Share.{Share}
+use Rattle.share_spec.specs.Reply.{fid_of}
+use Rattle.share_spec.specs.Step.{step_of}
+
+-- an open without key and durability, always connected
+abbrev pub plain_open : Open → Open
+plain_open o = record o { key = None; durable = false; connected = true }
+
+-- the share without leases, and without a connection
+abbrev pub plain_share : Share → Share
+plain_share s = record s { opens = map plain_open s.opens; leases = []; sent = []; owed = []; grants = [] }
+
+-- a request without the wish for a lease or a durable open
+abbrev pub plain_request : Req → Req
+plain_request (req.Create path access share disposition options attributes lease durable) =
+    req.Create path access share disposition options attributes None false
+plain_request r = r
+
+-- one request on the plain share
+abbrev pub plain_step : Share → Who → Req → Rep × Share
+plain_step s who r = step_of (Some (record { lease = 0; durable = false })) s who (plain_request r)
+
+-- what of a reply does not hang on file ids, leases and durable opens
+abbrev pub shown_body : RepBody → RepBody
+shown_body (body.Opened fid action size attributes lease durable) = body.Opened (fid_of 0) action size attributes 0 false
+shown_body b = b
+
+abbrev pub shown : Rep → Rep
+shown r = record r { body = shown_body r.body }
+
+-- two replies are the same: status and body agree, apart from the file id, the lease and the durable grant
+abbrev pub IsSameReply : Rep → Rep → Type 0
+IsSameReply a b = shown a ≡ shown b

@@ -1,0 +1,32 @@
+-- Replies.
+use Rattle.std.specs.Prelude.{ℕ, Bool, false, if◌then◌else◌, Option, Some, None}
+use Rattle.smb_base.specs.declared.names.Fid.{Fid}
+use Rattle.share_spec.specs.declared.request.Rep.{Rep}
+use Rattle.share_spec.specs.declared.request.RepBody.TheVariants as body
+use Rattle.share_spec.specs.declared.share.Share.{Share}
+
+-- a reply of this status alone
+abbrev pub of_status : ℕ → Rep
+of_status status = record { status = record { 0 = status }; body = body.None }
+
+-- a request that is refused: the share stays as it is
+abbrev pub refused : ℕ → Share → Rep × Share
+refused status s = (of_status status, s)
+
+-- what a request does, unless it is refused
+abbrev pub unless : Option ℕ → Share → Rep × Share → Rep × Share
+unless None s done = done
+unless (Some status) s done = refused status s
+
+-- the file id of an open: its number in both halves
+abbrev pub fid_of : ℕ → Fid
+fid_of n = record { persistent = n; volatile = n }
+
+-- the attributes that a reply shows (MS-FSCC 2.6): DIRECTORY 0x10 and READONLY 1, or NORMAL 0x80 where it has neither
+abbrev pub attributes_of : Bool → Bool → ℕ
+attributes_of dir read_only = if dir then (if read_only then 0x11 else 0x10) else (if read_only then 1 else 0x80)
+
+-- the reply to a Create that was done
+abbrev pub opened_reply : ℕ → ℕ → ℕ → ℕ → Rep
+opened_reply number action size attributes =
+    record { status = record { 0 = 0 }; body = body.Opened (fid_of number) action size attributes 0 false }

@@ -1,0 +1,381 @@
+//! Create, for one that wants neither a lease nor a durable open.
+
+ghost use Rattle.std.specs.Prelude.{◌≡◌, ◌+◌, IfOk, OnOk, OnErr, option_map};
+ghost use Rattle.share_spec.specs.State.{has};
+ghost use Rattle.share_spec.specs.Reply.{attributes_of, opened_reply};
+ghost use Rattle.share_spec.specs.Create.{is_disposition, overwrites, is_within, takes_part, is_unshared, refusal_of_missing, refusal_of_kind, refusal_of_read_only, refusal_of_use, refusal_of_there, open_with, with_open, with_new, made, opened, create_at, create_of};
+
+use crate::entry::{Entry, has_entries, is_going, is_pending};
+use crate::names::{are_names, components};
+use crate::node::{Node, is_directory, is_read_only, size_of};
+use crate::opens::{Open, has_unshared};
+use crate::place::{Found, Place, place_of};
+use crate::request::{Rep, RepBody, Who, of_status};
+use crate::share::Share;
+use smb_base::{Bytes, Fid, NoMemory, Status, Units};
+use std::alloc::Global;
+
+const OPEN: u32 = 1;
+
+const CREATE: u32 = 2;
+
+const OVERWRITE: u32 = 4;
+
+const DIRECTORY_FILE: u32 = 1;
+
+const NON_DIRECTORY_FILE: u32 = 0x40;
+
+const DELETE_ON_CLOSE: u32 = 0x1000;
+
+const READONLY: u32 = 1;
+
+const READ_DATA: u32 = 1;
+
+const WRITE_OR_APPEND: u32 = 6;
+
+const DELETE: u32 = 0x10000;
+
+const TAKES_PART: u32 = 0x10007;
+
+/// What a Create wants beside its path.
+#[derive(Clone, Copy)]
+pub struct Wanted {
+    /// What the open is to do (MS-SMB2 2.2.13.1).
+    pub access: u32,
+    /// What others may do meanwhile: 1 reading, 2 writing, 4 deleting.
+    pub share: u32,
+    /// OPEN 1, CREATE 2, OPEN_IF 3, OVERWRITE 4, OVERWRITE_IF 5.
+    pub disposition: u32,
+    /// DIRECTORY_FILE 1, NON_DIRECTORY_FILE 0x40, DELETE_ON_CLOSE 0x1000.
+    pub options: u32,
+    /// The attributes of what is made (MS-FSCC 2.6).
+    pub attributes: u32,
+}
+
+// The number has one of these bits.
+pub(crate) fn has(number: u32, bits: u32) -> bool
+    ensures { result ≡ has number bits }
+{
+    number & bits != 0
+}
+
+// The disposition is one of the five.
+pub(crate) fn is_disposition(disposition: u32) -> bool
+    ensures { result ≡ is_disposition disposition }
+{
+    1 <= disposition && disposition <= 5
+}
+
+// The disposition takes the bytes away of what is there.
+pub(crate) fn overwrites(disposition: u32) -> bool
+    ensures { result ≡ overwrites disposition }
+{
+    OVERWRITE <= disposition
+}
+
+// What an open does is within what another one shares.
+fn is_within(access: u32, share: u32) -> bool
+    ensures { result ≡ is_within access share }
+{
+    (!has(access, READ_DATA) || has(share, 1))
+        && (!has(access, WRITE_OR_APPEND) || has(share, 2))
+        && (!has(access, DELETE) || has(share, 4))
+}
+
+// The access takes part in sharing.
+fn takes_part(access: u32) -> bool
+    ensures { result ≡ takes_part access }
+{
+    has(access, TAKES_PART)
+}
+
+// What is wanted does not go together with an open of the same node.
+pub(crate) fn is_unshared(w: Wanted, other: &Open) -> bool
+    ensures { result ≡ is_unshared w other.now }
+{
+    takes_part(w.access)
+        && takes_part(other.access)
+        && !(is_within(w.access, other.share) && is_within(other.access, w.share))
+}
+
+// Why a Create is refused whose name is missing.
+fn refusal_of_missing(s: &Share, w: Wanted, directory: u64) -> Option<Status>
+    ensures { option_map (λ f. f.0) result ≡ refusal_of_missing s.now w directory }
+{
+    if w.disposition == OPEN || w.disposition == OVERWRITE {
+        return Some(Status::OBJECT_NAME_NOT_FOUND);
+    }
+    if is_going(s.entries.as_slice(), directory) {
+        return Some(Status::DELETE_PENDING);
+    }
+    None
+}
+
+// Why a Create is refused for the kind of what is there.
+pub(crate) fn refusal_of_kind(s: &Share, w: Wanted, node: u64) -> Option<Status>
+    ensures { option_map (λ f. f.0) result ≡ refusal_of_kind s.now w node }
+{
+    let dir = is_directory(s.nodes.as_slice(), node);
+    if has(w.options, DIRECTORY_FILE) && !dir {
+        return Some(Status::NOT_A_DIRECTORY);
+    }
+    if has(w.options, NON_DIRECTORY_FILE) && dir {
+        return Some(Status::FILE_IS_A_DIRECTORY);
+    }
+    if overwrites(w.disposition) && dir {
+        return Some(Status::INVALID_PARAMETER);
+    }
+    None
+}
+
+// Why a Create is refused since what is there is read-only.
+pub(crate) fn refusal_of_read_only(s: &Share, w: Wanted, node: u64) -> Option<Status>
+    ensures { option_map (λ f. f.0) result ≡ refusal_of_read_only s.now w node }
+{
+    if !is_read_only(s.nodes.as_slice(), node) {
+        return None;
+    }
+    if !is_directory(s.nodes.as_slice(), node)
+        && (has(w.access, WRITE_OR_APPEND) || overwrites(w.disposition))
+    {
+        return Some(Status::ACCESS_DENIED);
+    }
+    if has(w.options, DELETE_ON_CLOSE) {
+        return Some(Status::CANNOT_DELETE);
+    }
+    None
+}
+
+// Why a Create is refused since others have it open, or since it has entries and is to go.
+fn refusal_of_use(s: &Share, w: Wanted, node: u64) -> Option<Status>
+    ensures { option_map (λ f. f.0) result ≡ refusal_of_use s.now w node }
+{
+    if has_unshared(s.opens.as_slice(), node, w) {
+        return Some(Status::SHARING_VIOLATION);
+    }
+    if has(w.options, DELETE_ON_CLOSE)
+        && is_directory(s.nodes.as_slice(), node)
+        && has_entries(s.entries.as_slice(), node)
+    {
+        return Some(Status::DIRECTORY_NOT_EMPTY);
+    }
+    None
+}
+
+// Why a Create is refused whose name is there.
+fn refusal_of_there(s: &Share, w: Wanted, f: Found) -> Option<Status>
+    ensures { option_map (λ f. f.0) result ≡ refusal_of_there s.now w f }
+{
+    if is_pending(s.entries.as_slice(), f.entry) {
+        return Some(Status::DELETE_PENDING);
+    }
+    if w.disposition == CREATE {
+        return Some(Status::OBJECT_NAME_COLLISION);
+    }
+    if let Some(status) = refusal_of_kind(s, w, f.node) {
+        return Some(status);
+    }
+    if let Some(status) = refusal_of_read_only(s, w, f.node) {
+        return Some(status);
+    }
+    refusal_of_use(s, w, f.node)
+}
+
+// The attributes that a reply shows.
+fn attributes_of(dir: bool, read_only: bool) -> u32
+    ensures { result ≡ attributes_of dir read_only }
+{
+    match (dir, read_only) {
+        (true, true) => 0x11,
+        (true, false) => 0x10,
+        (false, true) => 1,
+        (false, false) => 0x80,
+    }
+}
+
+// The reply to a Create that was done.
+fn opened_reply(number: u64, action: u32, size: u64, attributes: u32) -> Rep
+    ensures { result ≡ opened_reply number action size attributes }
+{
+    Rep {
+        status: Status::SUCCESS,
+        body: RepBody::Opened {
+            fid: Fid {
+                persistent: number,
+                volatile: number,
+            },
+            action,
+            size,
+            attributes,
+            lease: 0,
+            durable: false,
+        },
+    }
+}
+
+// The next number; where none is left there is no memory for more either.
+fn next(made: u64) -> Result<u64, NoMemory>
+    ensures { IfOk result (λ n. n ≡ made + 1) }
+{
+    made.checked_add(1).ok_or(NoMemory)
+}
+
+// The open that a Create makes.
+fn new_open(number: u64, who: Who, w: Wanted, node: u64, entry: u64) -> Open
+    ensures { result ≡ open_with number who w node entry }
+{
+    Open {
+        number,
+        who,
+        node,
+        entry,
+        access: w.access,
+        share: w.share,
+        key: None,
+        durable: false,
+        connected: true,
+        delete_on_close: has(w.options, DELETE_ON_CLOSE),
+        snapshot: None,
+    }
+}
+
+// Adds an open. For want of memory nothing is changed.
+fn add_open(s: &mut Share, new: Open) -> Result<(), NoMemory>
+    ensures ok { OnOk result (s.new ≡ with_open new s.old) }
+    ensures err { OnErr result (s.new ≡ s.old) }
+{
+    let made = next(s.opens_made)?;
+    s.opens.push(new)?;
+    s.opens_made = made;
+    Ok(())
+}
+
+// Adds a new and empty node under a name in a directory. For want of memory nothing is changed.
+fn add_new(
+    alloc: Global,
+    s: &mut Share,
+    directory: u64,
+    name: Units,
+    dir: bool,
+    read_only: bool,
+) -> Result<(), NoMemory>
+    ensures ok { OnOk result (s.new ≡ with_new directory name dir read_only s.old) }
+    ensures err { OnErr result (s.new ≡ s.old) }
+{
+    let node = next(s.nodes_made)?;
+    let entry = next(s.entries_made)?;
+    s.nodes.push(Node {
+        number: node,
+        dir,
+        bytes: Bytes::new(alloc),
+        read_only,
+    })?;
+    match s.entries.push(Entry {
+        number: entry,
+        directory,
+        name,
+        node,
+        pending: false,
+    }) {
+        Ok(()) => {
+            s.nodes_made = node;
+            s.entries_made = entry;
+            Ok(())
+        }
+        Err(NoMemory) => {
+            s.nodes.drop_last();
+            Err(NoMemory)
+        }
+    }
+}
+
+// A Create that makes a file or a directory and opens it. For want of memory nothing is changed.
+fn make(
+    alloc: Global,
+    s: &mut Share,
+    who: Who,
+    w: Wanted,
+    directory: u64,
+    name: Units,
+) -> Result<Rep, NoMemory>
+    ensures ok { IfOk result (λ r. made s.old who w directory name ≡ (r, s.new)) }
+    ensures err { OnErr result (s.new ≡ s.old) }
+{
+    let number = next(s.opens_made)?;
+    let (node, entry) = (next(s.nodes_made)?, next(s.entries_made)?);
+    let dir = has(w.options, DIRECTORY_FILE);
+    let read_only = has(w.attributes, READONLY);
+    add_open(s, new_open(number, who, w, node, entry))?;
+    match add_new(alloc, s, directory, name, dir, read_only) {
+        Ok(()) => Ok(opened_reply(number, 2, 0, attributes_of(dir, read_only))),
+        Err(NoMemory) => {
+            s.opens.drop_last();
+            s.opens_made = number - 1;
+            Err(NoMemory)
+        }
+    }
+}
+
+// A Create that opens what is there. For want of memory nothing is changed.
+fn open_there(alloc: Global, s: &mut Share, who: Who, w: Wanted, f: Found) -> Result<Rep, NoMemory>
+    ensures ok { IfOk result (λ r. opened s.old who w f ≡ (r, s.new)) }
+    ensures err { OnErr result (s.new ≡ s.old) }
+{
+    let number = next(s.opens_made)?;
+    let dir = is_directory(s.nodes.as_slice(), f.node);
+    let read_only = is_read_only(s.nodes.as_slice(), f.node);
+    let attributes = attributes_of(dir, read_only);
+    let size = size_of(s.nodes.as_slice(), f.node);
+    add_open(s, new_open(number, who, w, f.node, f.entry))?;
+    if overwrites(w.disposition) {
+        s.nodes.empty(alloc, f.node);
+        return Ok(opened_reply(number, 3, 0, attributes));
+    }
+    Ok(opened_reply(number, 1, size, attributes))
+}
+
+// A Create at the place where its path leads.
+fn create_at(
+    alloc: Global,
+    s: &mut Share,
+    who: Who,
+    w: Wanted,
+    place: Place,
+) -> Result<Rep, NoMemory>
+    ensures ok { IfOk result (λ r. create_at s.old who w place ≡ (r, s.new)) }
+    ensures err { OnErr result (s.new ≡ s.old) }
+{
+    match place {
+        Place::NoPath => Ok(of_status(Status::OBJECT_PATH_NOT_FOUND)),
+        Place::Missing(directory, name) => match refusal_of_missing(s, w, directory) {
+            Some(status) => Ok(of_status(status)),
+            None => make(alloc, s, who, w, directory, name),
+        },
+        Place::There(found) => match refusal_of_there(s, w, found) {
+            Some(status) => Ok(of_status(status)),
+            None => open_there(alloc, s, who, w, found),
+        },
+    }
+}
+
+// A Create.
+pub(crate) fn create(
+    alloc: Global,
+    s: &mut Share,
+    who: Who,
+    path: &Units,
+    w: Wanted,
+) -> Result<Rep, NoMemory>
+    ensures ok { IfOk result (λ r. create_of s.old who path.now w ≡ (r, s.new)) }
+    ensures err { OnErr result (s.new ≡ s.old) }
+{
+    if !is_disposition(w.disposition) {
+        return Ok(of_status(Status::INVALID_PARAMETER));
+    }
+    let names = components(alloc, path.as_slice())?;
+    if !are_names(names.as_slice()) {
+        return Ok(of_status(Status::OBJECT_NAME_INVALID));
+    }
+    let place = place_of(alloc, s, names.as_slice())?;
+    create_at(alloc, s, who, w, place)
+}
