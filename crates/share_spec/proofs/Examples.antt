@@ -1,6 +1,7 @@
 -- The definitions at shares whose answers are known.
 use Rattle.std.proofs.Common.{◌≡◌, ℕ, true, false, [], ◌∷◌, refl, None, List}
 use Rattle.std.specs.Prelude.{codes}
+use Rattle.smb_base.specs.declared.names.Key.{Key}
 use Rattle.share_spec.specs.declared.request.Who.{Who}
 use Rattle.share_spec.specs.declared.request.RepBody.TheVariants as body
 use Rattle.share_spec.specs.declared.request.Req.{Req}
@@ -11,8 +12,8 @@ use Rattle.share_spec.specs.State.{fresh_share}
 use Rattle.share_spec.specs.Reply.{of_status, fid_of, opened_reply}
 use Rattle.share_spec.specs.Step.{step_of}
 use Rattle.share_spec.specs.Cut.{after_cut}
-use Rattle.share_spec.specs.Breaks.{lowered}
-use Rattle.share_spec.specs.PlainShare.{shown}
+use Rattle.share_spec.specs.Breaks.{lowered, needs_of}
+use Rattle.share_spec.specs.PlainShare.{shown, plain_step}
 
 us : Who
 us = record { 0 = 0 }
@@ -91,3 +92,27 @@ lowered_to_none = refl
 -- replies are the same whatever the file id
 same_replies : shown (opened_reply 1 2 0 0x80) ≡ shown (opened_reply 9 2 0 0x80)
 same_replies = refl
+
+-- on the plain share it is the same open, whatever was wanted of leases
+a_plain_open : (plain_step after_make (record { 0 = 0 }) (req.Create (codes "a") 1 7 1 0 0x80 None true)).0
+    ≡ opened_reply 2 1 0 0x80
+unfolding components
+a_plain_open = refl
+
+-- the same share, with a lease on the file that may read, keep handles and write
+abbrev leased : Key → Share
+leased key = record after_make { leases = record { who = record { 0 = 0 }; key = key; node = 2; state = 7; asked = None } ∷ [] }
+
+-- another client that reads has it broken to RH, one that overwrites to none
+a_reader_waits : (key : Key) → needs_of (leased key) (record { 0 = 1 }) (create (codes "a") 1) ≡ (key, 3) ∷ []
+unfolding components
+a_reader_waits key = refl
+
+an_overwriter_waits : (key : Key) → needs_of (leased key) (record { 0 = 1 }) (create (codes "a") 4) ≡ (key, 0) ∷ []
+unfolding components
+an_overwriter_waits key = refl
+
+-- a Create that is refused for the name waits for nothing
+a_collision_waits_not : (key : Key) → needs_of (leased key) (record { 0 = 1 }) (create (codes "a") 2) ≡ []
+unfolding components
+a_collision_waits_not key = refl
