@@ -74,9 +74,14 @@ HEAD = bytes.fromhex("00000066fe534d42400000000000000000002000000000000000000000
 TAIL = bytes.fromhex("00000000000000001002")
 
 
+def run(words, stdout=subprocess.PIPE):
+    """The status, what was printed, and what came on standard error."""
+    done = subprocess.run([PROGRAM, *words], stdin=subprocess.DEVNULL, stdout=stdout, stderr=subprocess.PIPE, timeout=60)
+    return done.returncode, (done.stdout or b"").decode(), done.stderr
+
+
 def ping(port):
-    done = subprocess.run([PROGRAM, "ping", "127.0.0.1", str(port)], capture_output=True, timeout=60)
-    return done.returncode, done.stdout.decode(), done.stderr
+    return run(["ping", "127.0.0.1", str(port)])
 
 
 def answered(data, dribble):
@@ -137,6 +142,20 @@ if len(seeds) != 2 * len(CASES):
     peers.say("ping", "a client id came twice")
 expect("a closed port", ping(peers.free_port()), (6, "fault 6 connects 1\n"))
 peers.say("ping", f"{2 * len(CASES)} answers of a small responder, and a closed port")
+
+WORDS = [[], [b"ping"], [b"ping", b"127.0.0.1"], [b"ping", b"127.0.0.1", b"1", b"2"], [b"Ping", b"127.0.0.1", b"1"],
+         [b"ping", b"-h", b"1"], [b"ping", b"", b"1"], [b"ping", b"127.0.0.1", b"0"], [b"ping", b"127.0.0.1", b"65536"],
+         [b"ping", b"127.0.0.1", b"01"], [b"ping", b"127.0.0.1", b"+1"], [b"ping", b"127.0.0.1", b"1 "], [b"ping", b"a" * 256, b"1"],
+         [b"ping", b"\xff", b"1"], [b"ping", b"127.0.0.1", b"1", b"\xff"], [b"run"]]
+for words in WORDS:
+    expect(f"the words {words}", run(words), (1, "fault 1 words\n"))
+peers.say("ping", f"{len(WORDS)} lists of other words")
+
+if os.path.exists("/dev/full"):
+    with open("/dev/full", "wb") as full:
+        expect("an output that is full, with other words", run([], stdout=full), (8, ""))
+        expect("an output that is full, with a closed port", run([b"ping", b"127.0.0.1", b"%d" % peers.free_port()], stdout=full), (8, ""))
+    peers.say("ping", "an output that is full")
 
 if shutil.which("smbd"):
     samba = peers.Samba(["smb2 max trans = 524288", "smb2 max read = 131072", "smb2 max write = 262144"])
