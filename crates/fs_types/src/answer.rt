@@ -1,8 +1,11 @@
 //! The answers of calls.
 
+ghost use Rattle.std.specs.Prelude.{◌≡◌, IfOk};
+
 use crate::call::Fd;
 use crate::names::{Kind, NameList};
-use smb_base::{Bytes, Errno, Status, Text};
+use smb_base::{Bytes, Errno, NoMemory, Status, Text};
+use std::alloc::Global;
 
 /// What `stat`, `lstat` and `fstat` say of a file.
 #[derive(Clone, Copy, Debug, PartialEq, Eq)]
@@ -52,4 +55,36 @@ pub enum Answer {
     /// It failed with this error number; where that is EREMOTEIO for a status of the server that has no number of its own, with
     /// this status (MS-ERREF 2.3.1).
     Err(Errno, Option<Status>),
+}
+
+impl Listing {
+    /// A copy of this listing. It fails only for want of memory.
+    pub fn copied(&self, alloc: Global) -> Result<Listing, NoMemory>
+        ensures { IfOk result (λ l. l ≡ self.now) }
+    {
+        Ok(Listing {
+            names: NameList::of(alloc, self.names.as_slice())?,
+            bad: self.bad,
+        })
+    }
+}
+
+impl Answer {
+    /// A copy of this answer. It fails only for want of memory.
+    pub fn copied(&self, alloc: Global) -> Result<Answer, NoMemory>
+        ensures { IfOk result (λ a. a ≡ self.now) }
+    {
+        Ok(match self {
+            Answer::Done => Answer::Done,
+            Answer::Descriptor(fd) => Answer::Descriptor(*fd),
+            Answer::Count(count) => Answer::Count(*count),
+            Answer::Bytes(bytes) => Answer::Bytes(Bytes::of(alloc, bytes.as_slice())?),
+            Answer::At(offset) => Answer::At(*offset),
+            Answer::Stat(stat) => Answer::Stat(*stat),
+            Answer::Target(target) => Answer::Target(Text::of(alloc, target.as_str())?),
+            Answer::Names(listing) => Answer::Names(listing.copied(alloc)?),
+            Answer::Room(total, free) => Answer::Room(*total, *free),
+            Answer::Err(errno, status) => Answer::Err(*errno, *status),
+        })
+    }
 }

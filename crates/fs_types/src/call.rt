@@ -1,6 +1,9 @@
 //! The calls of a script.
 
-use smb_base::{Bytes, Text};
+ghost use Rattle.std.specs.Prelude.{◌≡◌, IfOk};
+
+use smb_base::{Bytes, NoMemory, Text};
+use std::alloc::Global;
 
 /// The number of a descriptor. `open` and `dup` take the least that is free, from 0 on.
 #[derive(Clone, Copy, Debug, PartialEq, Eq)]
@@ -63,4 +66,54 @@ pub enum Call {
     Unlock(Fd, u64, u64),
     /// The room of the share.
     Statfs,
+}
+
+fn text(alloc: Global, text: &Text) -> Result<Text, NoMemory>
+    ensures { IfOk result (λ t. t ≡ text.now) }
+{
+    Text::of(alloc, text.as_str())
+}
+
+fn bytes(alloc: Global, bytes: &Bytes) -> Result<Bytes, NoMemory>
+    ensures { IfOk result (λ b. b ≡ bytes.now) }
+{
+    Bytes::of(alloc, bytes.as_slice())
+}
+
+impl Call {
+    /// A copy of this call. It fails only for want of memory.
+    pub fn copied(&self, alloc: Global) -> Result<Call, NoMemory>
+        ensures { IfOk result (λ c. c ≡ self.now) }
+    {
+        Ok(match self {
+            Call::Open(path, flags) => Call::Open(text(alloc, path)?, *flags),
+            Call::Dup(fd) => Call::Dup(*fd),
+            Call::Close(fd) => Call::Close(*fd),
+            Call::Fsync(fd) => Call::Fsync(*fd),
+            Call::Ftruncate(fd, size) => Call::Ftruncate(*fd, *size),
+            Call::Pread(fd, offset, length) => Call::Pread(*fd, *offset, *length),
+            Call::Read(fd, length) => Call::Read(*fd, *length),
+            Call::Pwrite(fd, offset, data) => Call::Pwrite(*fd, *offset, bytes(alloc, data)?),
+            Call::Write(fd, data) => Call::Write(*fd, bytes(alloc, data)?),
+            Call::Append(fd, data) => Call::Append(*fd, bytes(alloc, data)?),
+            Call::Seek(fd, offset) => Call::Seek(*fd, *offset),
+            Call::Fstat(fd) => Call::Fstat(*fd),
+            Call::Stat(path) => Call::Stat(text(alloc, path)?),
+            Call::Lstat(path) => Call::Lstat(text(alloc, path)?),
+            Call::Unlink(path) => Call::Unlink(text(alloc, path)?),
+            Call::Rmdir(path) => Call::Rmdir(text(alloc, path)?),
+            Call::Mkdir(path) => Call::Mkdir(text(alloc, path)?),
+            Call::Rename(old, new) => Call::Rename(text(alloc, old)?, text(alloc, new)?),
+            Call::Link(old, new) => Call::Link(text(alloc, old)?, text(alloc, new)?),
+            Call::Symlink(target, path) => Call::Symlink(text(alloc, target)?, text(alloc, path)?),
+            Call::Readlink(path) => Call::Readlink(text(alloc, path)?),
+            Call::List(path) => Call::List(text(alloc, path)?),
+            Call::Chmod(path, mode) => Call::Chmod(text(alloc, path)?, *mode),
+            Call::Lock(fd, offset, length, exclusive) => {
+                Call::Lock(*fd, *offset, *length, *exclusive)
+            }
+            Call::Unlock(fd, offset, length) => Call::Unlock(*fd, *offset, *length),
+            Call::Statfs => Call::Statfs,
+        })
+    }
 }

@@ -1,5 +1,5 @@
 -- The definitions at shares whose answers are known.
-use Rattle.std.proofs.Common.{◌≡◌, ℕ, true, false, [], ◌∷◌, refl, None, List}
+use Rattle.std.proofs.Common.{◌≡◌, ℕ, true, false, [], ◌∷◌, refl, None, Some, List}
 use Rattle.std.specs.Prelude.{codes}
 use Rattle.smb_base.specs.declared.names.Key.{Key}
 use Rattle.share_spec.specs.declared.request.Who.{Who}
@@ -11,7 +11,8 @@ use Rattle.share_spec.specs.Names.{components, same_name}
 use Rattle.share_spec.specs.State.{fresh_share}
 use Rattle.share_spec.specs.Reply.{of_status, fid_of, opened_reply}
 use Rattle.share_spec.specs.Step.{step_of}
-use Rattle.share_spec.specs.Cut.{after_cut}
+use Rattle.share_spec.specs.Cut.{after_cut, after_drop}
+use Rattle.share_spec.specs.Grants.{is_allowed}
 use Rattle.share_spec.specs.Breaks.{lowered, needs_of}
 use Rattle.share_spec.specs.PlainShare.{shown, plain_step}
 
@@ -116,3 +117,38 @@ an_overwriter_waits key = refl
 a_collision_waits_not : (key : Key) → needs_of (leased key) (record { 0 = 1 }) (create (codes "a") 2) ≡ []
 unfolding components
 a_collision_waits_not key = refl
+
+-- the same open, durable and disconnected, under a key
+abbrev disconnected_open : Key → Share
+disconnected_open key = record after_make {
+  opens = record {
+    number = 1;
+    who = record { 0 = 0 };
+    node = 2;
+    entry = 1;
+    access = 1;
+    share = 7;
+    key = Some key;
+    durable = true;
+    connected = false;
+    delete_on_close = false;
+    snapshot = None;
+  } ∷ [];
+}
+
+abbrev key_of_ones : Key
+key_of_ones = record { 0 = 1 ∷ 1 ∷ [] }
+
+-- it ends where the share drops what is disconnected under that key, and stays where it drops another
+dropped : (after_drop key_of_ones (disconnected_open key_of_ones)).opens ≡ []
+dropped = refl
+
+not_dropped : (after_drop (record { 0 = 2 ∷ 2 ∷ [] }) (disconnected_open key_of_ones)).opens ≡ (disconnected_open key_of_ones).opens
+not_dropped = refl
+
+-- it may always grant as much as may be, and no lease where none was wanted
+most_is_allowed : is_allowed None after_make us (create (codes "a") 1) ≡ true
+most_is_allowed = refl
+
+no_lease_is_allowed : is_allowed (Some (record { lease = 1; durable = false })) after_make us (create (codes "a") 1) ≡ false
+no_lease_is_allowed = refl

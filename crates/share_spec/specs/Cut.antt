@@ -1,17 +1,27 @@
 -- What a lost connection leaves (MS-SMB2 3.3.7.1), and a new one.
-use Rattle.std.specs.Prelude.{◌==◌, Bool, false, not, ◌&&◌, ◌||◌, is_some, if◌then◌else◌, List, [], ◌∷◌, map, filter}
+use Rattle.std.specs.Prelude.{◌==◌, Bool, true, false, not, ◌&&◌, ◌||◌, is_some, if◌then◌else◌, List, [], ◌∷◌, map, filter}
 use Rattle.std.specs.List.{list_any}
 use Rattle.smb_base.specs.declared.names.Key.{Key}
 use Rattle.share_spec.specs.declared.lease.Lease.{Lease}
 use Rattle.share_spec.specs.declared.opens.Open.{Open}
 use Rattle.share_spec.specs.declared.request.Who.{Who}
 use Rattle.share_spec.specs.declared.share.Share.{Share}
-use Rattle.share_spec.specs.Close.{is_key_of, closed}
+use Rattle.share_spec.specs.declared.lost.Ending.{Ending}
+use Rattle.share_spec.specs.Close.{is_key_of, closed, ended}
 
 -- the share once these opens end, one after the other, each as by a Close
 abbrev pub all_closed : List Open → Share → Share
 all_closed [] s = s
 all_closed (o ∷ os) s = all_closed os (closed o s)
+
+-- what the end of an open goes by
+abbrev pub ending_of : Open → Ending
+ending_of o = record { number = o.number; node = o.node; entry = o.entry; delete = o.delete_on_close }
+
+-- the same, given what the ends go by
+abbrev pub all_ended : List Ending → Share → Share
+all_ended [] s = s
+all_ended (e ∷ es) s = all_ended es (ended e.number e.node e.entry e.delete s)
 
 -- the lease of an open has a break asked
 abbrev pub is_broken : List Lease → Open → Bool
@@ -25,9 +35,9 @@ ends_with who leases o = o.who.0 == who.0 && (not o.durable || is_broken leases 
 abbrev pub disconnected : Who → Open → Open
 disconnected who o = if o.who.0 == who.0 then record o { connected = false } else o
 
--- the connection is empty: nothing is sent and nothing is owed
-abbrev pub without_connection : Share → Share
-without_connection s = record s { sent = []; owed = [] }
+-- the share with a connection that stands or not, on which nothing is sent, owed or held
+abbrev pub with_connection : Bool → Share → Share
+with_connection stands s = record s { connected = stands; sent = []; owed = []; held = [] }
 
 -- the lists of the share once a client's connection is lost
 abbrev pub after_cut_of : Who → Share → Share
@@ -37,11 +47,11 @@ after_cut_of who s =
 
 -- the connection of client 0 is lost, with all that was sent and not taken, and owed and not got
 abbrev pub after_cut : Share → Share
-after_cut s = without_connection (after_cut_of (record { 0 = 0 }) s)
+after_cut s = with_connection false (after_cut_of (record { 0 = 0 }) s)
 
 -- a new connection of client 0 begins empty; the disconnected opens stay as they are until they are reclaimed or dropped
 abbrev pub after_join : Share → Share
-after_join s = without_connection s
+after_join s = with_connection true s
 
 -- the share drops the disconnected opens of client 0 under a key
 abbrev pub after_drop : Key → Share → Share

@@ -8,5 +8,7 @@ pub mod Close
 pub mod Query
 pub mod Step
 pub mod Cut
+pub mod Sent
 pub mod Breaks
 pub mod PlainShare
+pub mod Grants

@@ -17,7 +17,7 @@ plain_open o = record o { key = None; durable = false; connected = true }
 
 -- the share without leases, and without a connection
 abbrev pub plain_share : Share → Share
-plain_share s = record s { opens = map plain_open s.opens; leases = []; sent = []; owed = []; grants = [] }
+plain_share s = record s { opens = map plain_open s.opens; leases = []; connected = false; sent = []; owed = []; held = []; grants = [] }
 
 -- a request without the wish for a lease or a durable open
 abbrev pub plain_request : Req → Req

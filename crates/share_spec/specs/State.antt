@@ -19,8 +19,10 @@ fresh_share room fold = record {
   nodes_made = 1;
   entries_made = 0;
   opens_made = 0;
+  connected = false;
   sent = [];
   owed = [];
+  held = [];
   grants = [];
 }
 

@@ -28,7 +28,7 @@ fn delete_entry(entries: &mut EntryList, delete: bool, node: u64, entry: u64)
 }
 
 // Ends an open, given what it was.
-fn end(s: &mut Share, number: u64, node: u64, entry: u64, delete: bool)
+pub(crate) fn end(s: &mut Share, number: u64, node: u64, entry: u64, delete: bool)
     ensures { s.new ≡ ended number node entry delete s.old }
 {
     s.opens.remove(number);

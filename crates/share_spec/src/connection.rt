@@ -1,30 +1,44 @@
 //! The connection: what was sent and not taken, what is owed and not got, and what will be granted.
 
-ghost use Rattle.std.specs.Prelude.{◌≡◌, ◌++◌, ◌∷◌, [], OnOk, OnErr};
+ghost use Rattle.std.specs.Prelude.{◌≡◌, ◌++◌, ◌∷◌, [], OnOk, OnErr, MatchOption, map};
+ghost use Rattle.share_spec.specs.Sent.{after_create, sent_but};
 
 use crate::request::Rep;
-use smb_base::{Bytes, Key, Mid, NoMemory};
+use smb_base::{Bytes, Fid, Key, Mid, NoMemory, Status};
 use std::alloc::Global;
 use std::marker::Model;
+
+/// What the last CREATE before a request in its frame came to. A related request (MS-SMB2 3.3.5.2.7.2) goes by it.
+#[derive(Clone, Copy)]
+pub enum LastCreate {
+    /// None was taken.
+    Nothing,
+    /// It gave this open.
+    Opened(Fid),
+    /// It was refused.
+    Refused(Status),
+}
 
 /// A message that the client sent and that was not taken yet.
 #[derive(Drop)]
 pub struct Sent {
     /// Its id.
     pub mid: Mid,
-    /// The number of the frame that it came in, which ties related requests together (MS-SMB2 3.3.5.2.7.2).
-    pub frame: u64,
+    /// The id of the first message of the frame that it came in.
+    pub frame: Mid,
     /// The message, header and body.
     pub message: Bytes,
     /// An interim reply to it was owed already.
     pub pended: bool,
+    /// What the last CREATE before it in its frame came to.
+    pub last_create: LastCreate,
 }
 
 /// A message that the client is owed and did not get yet.
 #[derive(Drop)]
 pub enum Owed {
-    /// An interim reply to this request (MS-SMB2 3.3.4.2).
-    Interim(Mid),
+    /// An interim reply to this request (MS-SMB2 3.3.4.2), which was the message.
+    Interim(Mid, Bytes),
     /// The reply to this request, which was the message.
     Reply(Mid, Bytes, Rep),
     /// The reply to a request that changes nothing on the share, as those of a mount; the request was the message.
@@ -82,6 +96,56 @@ impl SentList {
         self.held.push(item)?;
         Ok(())
     }
+
+    /// Takes the oldest one off.
+    pub fn take_first(&mut self) -> Option<Sent>
+        ensures { MatchOption result ((self.old ≡ []) × (self.new ≡ [])) (λ first. self.old ≡ first ∷ self.new) }
+    {
+        if self.held.is_empty() {
+            return None;
+        }
+        Some(self.held.remove(0))
+    }
+
+    /// Takes each one with this id off.
+    pub fn remove(&mut self, mid: Mid)
+        ensures { self.new ≡ sent_but mid self.old }
+    {
+        remove_from(&mut self.held, mid);
+    }
+
+    /// Has each message of the frame whose first message has this id know what the last CREATE before it came to.
+    pub fn tell_create(&mut self, frame: Mid, last: LastCreate)
+        ensures { self.new ≡ map (after_create frame last) self.old }
+    {
+        tell_in(&mut self.held, frame, last);
+    }
+}
+
+// Takes each message with this id off.
+fn remove_from(sent: &mut Vec<Sent>, mid: Mid)
+    ensures { sent.new.items ≡ sent_but mid sent.old.items }
+{
+    sent.retain(|one| one.mid.0 != mid.0);
+}
+
+// Has each message of this frame know what the last CREATE before it came to.
+#[tactic(auto, using(std::proofs::lemmas::List::Edits::map_over_more))]
+fn tell_in(sent: &mut [Sent], frame: Mid, last: LastCreate)
+    ensures { sent.new ≡ map (after_create frame last) sent.old }
+{
+    for one in sent.iter_mut() {
+        tell_one(one, frame, last);
+    }
+}
+
+// Has this message know it, where it is of the frame.
+fn tell_one(one: &mut Sent, frame: Mid, last: LastCreate)
+    ensures { one.new ≡ after_create frame last one.old }
+{
+    if one.frame.0 == frame.0 {
+        one.last_create = last;
+    }
 }
 
 /// Messages that are owed. A contract sees the list of them, the oldest first.
@@ -126,17 +190,17 @@ impl OwedList {
     }
 }
 
-/// What the share is going to choose, request by request. A contract sees the list.
+/// What the share is going to choose, request by request; `None` where it grants as much as it may. A contract sees the list.
 #[derive(Drop)]
 pub struct GrantList {
-    held: Vec<Grant>,
+    held: Vec<Option<Grant>>,
 }
 
 impl Model for GrantList {
-    ghost use Rattle.std.specs.Prelude.{List};
+    ghost use Rattle.std.specs.Prelude.{List, Option};
     ghost use Rattle.share_spec.specs.declared.connection.Grant.{Grant};
 
-    ghost Value = { List Grant };
+    ghost Value = { List (Option Grant) };
 
     ghost view = { λ l. l.held.items };
 }
@@ -152,14 +216,14 @@ impl GrantList {
     }
 
     /// Lends the choices.
-    pub fn as_slice(&self) -> &[Grant]
+    pub fn as_slice(&self) -> &[Option<Grant>]
         ensures { result.now ≡ self.now }
     {
         self.held.as_slice()
     }
 
     /// Adds one at the end. For want of memory nothing is changed.
-    pub fn push(&mut self, item: Grant) -> Result<(), NoMemory>
+    pub fn push(&mut self, item: Option<Grant>) -> Result<(), NoMemory>
         ensures ok { OnOk result (self.new ≡ self.old ++ item ∷ []) }
         ensures err { OnErr result (self.new ≡ self.old) }
     {

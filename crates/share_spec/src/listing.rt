@@ -7,7 +7,7 @@ use std::alloc::Global;
 use std::marker::Model;
 
 /// A name as a listing gives it (MS-FSCC 2.4.18).
-#[derive(Drop)]
+#[derive(Debug, Drop)]
 pub struct ShareName {
     /// The name, in units of UTF-16.
     pub name: Units,
@@ -22,7 +22,7 @@ pub struct ShareName {
 }
 
 /// Names of a listing. A contract sees the list of them.
-#[derive(Drop)]
+#[derive(Debug, Drop)]
 pub struct ShareNameList {
     held: Vec<ShareName>,
 }
@@ -64,7 +64,7 @@ impl ShareNameList {
 }
 
 /// Names without what they stand for. A contract sees the list of them, each as its units.
-#[derive(Drop)]
+#[derive(Debug, Drop)]
 pub struct UnitsList {
     held: Vec<Units>,
 }

@@ -1,10 +1,11 @@
 //! The opens of files and directories.
 
-ghost use Rattle.std.specs.Prelude.{◌≡◌, ◌++◌, ◌∷◌, [], OnOk, OnErr, take, length, ◌-◌};
+ghost use Rattle.std.specs.Prelude.{◌≡◌, ◌++◌, ◌∷◌, [], OnOk, OnErr, take, length, ◌-◌, map};
 ghost use Rattle.std.specs.Option.{option_copied};
 ghost use Rattle.share_spec.specs.State.{has_open_of_entry, has_open_of_node};
 ghost use Rattle.share_spec.specs.Close.{opens_but, open_of, is_open_of, is_key_of, has_open_of_key};
 ghost use Rattle.share_spec.specs.Create.{has_unshared};
+ghost use Rattle.share_spec.specs.Cut.{disconnected};
 
 use crate::create::{Wanted, is_unshared};
 use crate::listing::ShareNameList;
@@ -94,6 +95,13 @@ impl OpenList {
     {
         remove_from(&mut self.held, number);
     }
+
+    // Disconnects those of this client.
+    pub(crate) fn disconnect(&mut self, who: Who)
+        ensures { self.new ≡ map (disconnected who) self.old }
+    {
+        disconnect_in(&mut self.held, who);
+    }
 }
 
 // Some open has this entry.
@@ -111,7 +119,7 @@ pub(crate) fn has_open_of_node(opens: &[Open], node: u64) -> bool
 }
 
 // This is the key of an open.
-fn is_key_of(key: Key, own: &Option<Key>) -> bool
+pub(crate) fn is_key_of(key: Key, own: &Option<Key>) -> bool
     ensures { result ≡ is_key_of key own.now }
 {
     match own {
@@ -165,4 +173,23 @@ fn remove_from(opens: &mut Vec<Open>, number: u64)
     ensures { opens.new.items ≡ opens_but number opens.old.items }
 {
     opens.retain(|open| open.number != number);
+}
+
+// Disconnects those of this client.
+#[tactic(auto, using(std::proofs::lemmas::List::Edits::map_over_more))]
+fn disconnect_in(opens: &mut [Open], who: Who)
+    ensures { opens.new ≡ map (disconnected who) opens.old }
+{
+    for open in opens.iter_mut() {
+        disconnect_one(open, who);
+    }
+}
+
+// Disconnects this open where it is of the client.
+fn disconnect_one(one: &mut Open, who: Who)
+    ensures { one.new ≡ disconnected who one.old }
+{
+    if one.who.0 == who.0 {
+        one.connected = false;
+    }
 }

@@ -13,7 +13,7 @@ pub struct Who(pub u32);
 
 /// A request to the share. Offsets, lengths and sizes are in bytes; a path is whole, from the root on, with a backslash between two
 /// components, and empty for the root.
-#[derive(Drop)]
+#[derive(Debug, Drop)]
 pub enum Req {
     /// Opens what a path names, or makes it (MS-SMB2 2.2.13).
     Create {
@@ -171,7 +171,7 @@ impl Req {
 }
 
 /// What a reply holds beside its status.
-#[derive(Drop)]
+#[derive(Debug, Drop)]
 pub enum RepBody {
     /// Nothing.
     None,
@@ -221,7 +221,7 @@ pub enum RepBody {
 }
 
 /// A reply of the share.
-#[derive(Drop)]
+#[derive(Debug, Drop)]
 pub struct Rep {
     /// 0 where it was done, else why not (MS-ERREF 2.3.1).
     pub status: Status,

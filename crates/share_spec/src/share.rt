@@ -35,10 +35,14 @@ pub struct Share {
     pub entries_made: u64,
     /// How many opens were made so far.
     pub opens_made: u64,
+    /// A connection to the client stands.
+    pub connected: bool,
     /// What the client sent on this connection and was not taken yet.
     pub sent: SentList,
     /// What the client is owed on this connection and did not get yet.
     pub owed: OwedList,
+    /// The bytes that the client got of a frame that is not whole yet.
+    pub held: Bytes,
     /// What the share is going to choose at the next requests that it takes, as their replies will tell.
     pub grants: GrantList,
 }
@@ -67,8 +71,10 @@ impl Share {
             nodes_made: 1,
             entries_made: 0,
             opens_made: 0,
+            connected: false,
             sent: SentList::new(alloc),
             owed: OwedList::new(alloc),
+            held: Bytes::new(alloc),
             grants: GrantList::new(alloc),
         })
     }

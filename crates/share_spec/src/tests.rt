@@ -1,5 +1,5 @@
 use super::*;
-use smb_base::{Fid, Key, Status, Units};
+use smb_base::{Bytes, Fid, Key, Mid, Status, Units};
 use std::process::Abort;
 
 const US: Who = Who(0);
@@ -342,20 +342,21 @@ fn each_list_takes_what_it_is_given(rt: HostRuntime) {
         lease: 7,
         durable: true,
     };
-    assert!(rt; grants.push(grant).is_ok());
-    assert_eq!(rt; grants.as_slice()[0].lease, 7);
+    assert!(rt; grants.push(Some(grant)).is_ok() && grants.push(None).is_ok());
+    assert!(rt; matches!(grants.as_slice(), [Some(first), None] if first.lease == 7));
     let mut owed = OwedList::new(rt.alloc());
     assert!(rt; owed.push(Owed::Notice(Key([1; 16]), 3)).is_ok());
     assert_eq!(rt; owed.as_slice().len(), 1);
     let mut sent = SentList::new(rt.alloc());
     let message = Sent {
         mid: smb_base::Mid(4),
-        frame: 1,
+        frame: smb_base::Mid(3),
         message: smb_base::Bytes::new(rt.alloc()),
         pended: false,
+        last_create: LastCreate::Nothing,
     };
     assert!(rt; sent.push(message).is_ok());
-    assert_eq!(rt; sent.as_slice()[0].frame, 1);
+    assert_eq!(rt; sent.as_slice()[0].frame.0, 3);
     let rep = Rep {
         status: Status(0),
         body: RepBody::Count(3),
@@ -421,4 +422,44 @@ fn a_create_waits_for_the_leases_in_its_way(rt: HostRuntime) {
     let r = Req::Close { fid: fid(1) };
     let needs = conflicts(rt.alloc(), &s, OTHER, &r).expect(&rt, "memory");
     assert!(rt; needs.as_slice().is_empty());
+}
+
+#[test]
+fn a_cut_ends_the_opens_of_its_client_alone(rt: HostRuntime) {
+    let mut s = share(&rt, false);
+    let ours = create(&rt, &mut s, US, "f", (DELETE, 7, OPEN, ON_CLOSE, 0));
+    let theirs = create(&rt, &mut s, OTHER, "e", (ATTRIBUTES, 7, OPEN, 0, 0));
+    assert_eq!(rt; (status(&ours), status(&theirs)), (0, 0));
+    assert!(rt; cut(rt.alloc(), &mut s).is_ok());
+    assert_eq!(rt; s.opens.as_slice().len(), 1);
+    assert_eq!(rt; close(&rt, &mut s, US, opened(&ours).0), 0xC000_0128);
+    let missing = create(&rt, &mut s, US, "f", (ATTRIBUTES, 7, OPEN, 0, 0));
+    assert_eq!(rt; status(&missing), 0xC000_0034);
+    assert_eq!(rt; close(&rt, &mut s, OTHER, opened(&theirs).0), 0);
+    assert!(rt; s.opens.as_slice().is_empty());
+}
+
+#[test]
+fn what_was_sent_is_taken_in_order_and_knows_the_last_create_of_its_frame(rt: HostRuntime) {
+    let mut sent = SentList::new(rt.alloc());
+    for (mid, frame) in [(1, 1), (2, 1), (3, 3)] {
+        let one = Sent {
+            mid: Mid(mid),
+            frame: Mid(frame),
+            message: Bytes::new(rt.alloc()),
+            pended: false,
+            last_create: LastCreate::Nothing,
+        };
+        assert!(rt; sent.push(one).is_ok());
+    }
+    assert!(rt; matches!(sent.take_first(), Some(one) if one.mid == Mid(1)));
+    sent.tell_create(Mid(1), LastCreate::Refused(Status(7)));
+    assert!(rt;
+        matches!(sent.take_first(), Some(one) if matches!(one.last_create, LastCreate::Refused(Status(7))))
+    );
+    sent.remove(Mid(2));
+    assert!(rt;
+        matches!(sent.take_first(), Some(one) if matches!(one.last_create, LastCreate::Nothing))
+    );
+    assert!(rt; sent.take_first().is_none());
 }
