@@ -4,12 +4,12 @@ use Rattle.smb_link.specs.declared.event.Event.{Event}
 use Rattle.smb_link.specs.declared.event.Event.TheVariants.{Sent, Joined, Cut}
 use Rattle.fs_top.specs.declared.ending.Ending.{Ending}
 use Rattle.fs_top.specs.declared.ending.Ending.TheVariants as ending
-use Rattle.fs_top.specs.Came.{Seen, Came}
+use Rattle.smb_link.specs.Came.{Seen, Came}
 use Rattle.fs_top.specs.Request.{ping_frame}
 use Rattle.fs_top.specs.Run.{opening, PingEnds}
 use Rattle.fs_top.specs.Tale.{WaitEnds, HeardBy, Heard}
 use Rattle.fs_top.specs.Verdict.{EndsWait}
-use Rattle.fs_top.proofs.CameLaws.{came_then}
+use Rattle.smb_link.proofs.CameLaws.{came_then}
 use Rattle.fs_top.proofs.Partial.{first_of-nothing}
 
 joined : (start : List Event) (frame : List ℕ) (waited : List Event) → (start ++ Joined ∷ []) ++ ((Sent frame ∷ []) ++ waited) ≡ start ++ Joined ∷ Sent frame ∷ waited

@@ -15,7 +15,7 @@ use Rattle.fs_top.specs.declared.ending.Kind.{Kind}
 use Rattle.fs_top.specs.declared.ending.Kind.TheVariants as kind
 use Rattle.fs_top.specs.declared.ending.Ending.{Ending}
 use Rattle.fs_top.specs.declared.ending.Ending.TheVariants as ending
-use Rattle.fs_top.specs.Came.{Seen, Came, counted_all, is_refusal, is_cut, is_silence}
+use Rattle.smb_link.specs.Came.{Seen, Came, counted_all, is_refusal, is_cut, is_silence}
 use Rattle.fs_top.specs.Counts.{IsLost, ByCounts}
 use Rattle.fs_top.specs.Endings.{status_of}
 use Rattle.fs_top.specs.Printing.{Held}
@@ -24,7 +24,7 @@ use Rattle.fs_top.specs.Run.{opening, Printed, Ran}
 use Rattle.fs_top.specs.Tale.{bytes_got, quiets_at_end, Listens, FirstEnds, LastEnds, WaitEnds}
 use Rattle.fs_top.specs.Verdict.{is_reply, greeting_of, answer_of, unless_more, GreetingEnds, RefusalEnds, ReplyEnds, PartEnds}
 use Rattle.fs_top.proofs.Once.{Cause, by_words, by_refusal, by_wait, cause_of}
-use Rattle.fs_top.proofs.CameLaws.{counted_all-append}
+use Rattle.smb_link.proofs.CameLaws.{counted_all-append}
 
 cuts_opening : (stood : Bool) (n : ℕ) (events : List Event) → counted_all n is_cut (opening stood ++ events) ≡ counted_all (counted n stood) is_cut events
 cuts_opening true n events = refl
@@ -43,39 +43,27 @@ cuts_heard : (k n : ℕ) (events : List Event) → Listens k events → counted_
 cuts_heard k n [] h = refl
 cuts_heard k n (Got bytes ∷ events) h = cuts_heard 0 n events h.1
 cuts_heard k n (Quiet ∷ events) h = cuts_heard (k + 1) n events h.1
-cuts_heard k n (Sent frame ∷ events) h = absurd h
-cuts_heard k n (Joined ∷ events) h = absurd h
-cuts_heard k n (NotJoined ∷ events) h = absurd h
-cuts_heard k n (Cut ∷ events) h = absurd h
+cuts_heard k n (event ∷ events) h = absurd h
 
 refusals_heard : (k n : ℕ) (events : List Event) → Listens k events → counted_all n is_refusal events ≡ n
 refusals_heard k n [] h = refl
 refusals_heard k n (Got bytes ∷ events) h = refusals_heard 0 n events h.1
 refusals_heard k n (Quiet ∷ events) h = refusals_heard (k + 1) n events h.1
-refusals_heard k n (Sent frame ∷ events) h = absurd h
-refusals_heard k n (Joined ∷ events) h = absurd h
-refusals_heard k n (NotJoined ∷ events) h = absurd h
-refusals_heard k n (Cut ∷ events) h = absurd h
+refusals_heard k n (event ∷ events) h = absurd h
 
 -- one wait more before them makes at most one more at their end
 quiets_step : (k : ℕ) (events : List Event) → quiets_at_end (k + 1) events ≤ quiets_at_end k events + 1
 quiets_step k [] = omega arith
 quiets_step k (Got bytes ∷ events) = omega arith
 quiets_step k (Quiet ∷ events) = quiets_step (k + 1) events
-quiets_step k (Sent frame ∷ events) = quiets_step k events
-quiets_step k (Joined ∷ events) = quiets_step k events
-quiets_step k (NotJoined ∷ events) = quiets_step k events
-quiets_step k (Cut ∷ events) = quiets_step k events
+quiets_step k (event ∷ events) = quiets_step k events
 
 -- the waits in vain at the end are counted
 silences_count : (k n : ℕ) (events : List Event) → min (n + quiets_at_end k events) (2 ^ 64 - 1) ≤ min (counted_all n is_silence events + k) (2 ^ 64 - 1)
 silences_count k n [] = omega arith
 silences_count k n (Got bytes ∷ events) = omega (arith, silences_count 0 n events)
 silences_count k n (Quiet ∷ events) = omega (arith, silences_count k (min (n + 1) (2 ^ 64 - 1)) events, quiets_step k events)
-silences_count k n (Sent frame ∷ events) = silences_count k n events
-silences_count k n (Joined ∷ events) = silences_count k n events
-silences_count k n (NotJoined ∷ events) = silences_count k n events
-silences_count k n (Cut ∷ events) = silences_count k n events
+silences_count k n (event ∷ events) = silences_count k n events
 
 -- the counts after a ping that was asked: what the last event adds
 record AskedCounts (stood : Bool) (link link' : Seen) (heard : List Event) (last : Event) : Type 0 where
@@ -163,9 +151,7 @@ waited_last stood link link' heard Quiet e counts ends =
     let many = silences_count 0 link.quiets heard in
     (counts.faults, lost ends.1 (inr (inr (omega (arith, counts.quiets, ends.0, many)))))
 waited_last stood link link' heard Cut e counts ends = (counts.faults, lost ends (inr (inl (omega (arith, counts.cuts)))))
-waited_last stood link link' heard (Sent frame) e counts ends = absurd ends
-waited_last stood link link' heard Joined e counts ends = absurd ends
-waited_last stood link link' heard NotJoined e counts ends = absurd ends
+waited_last stood link link' heard event e counts ends = absurd ends
 
 -- the status of a lost connection, or of the line that was refused
 printed_lost : (e : Ending) (sink sink' : Held) (status : ℕ) → status_of e ≡ 6 ⊎ status_of e ≡ 3 → Printed e sink sink' status → IsLost status

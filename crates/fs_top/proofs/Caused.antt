@@ -3,7 +3,7 @@ use Rattle.std.proofs.Common.{◌≡◌, ◌⊎◌, inl, inr, ℕ, Bool, List, r
 use Rattle.smb_link.specs.declared.event.Event.{Event}
 use Rattle.fs_top.specs.declared.ending.Ending.{Ending}
 use Rattle.fs_top.specs.declared.ending.Ending.TheVariants as ending
-use Rattle.fs_top.specs.Came.{Seen, Came}
+use Rattle.smb_link.specs.Came.{Seen, Came}
 use Rattle.fs_top.specs.Printing.{Held}
 use Rattle.fs_top.specs.Run.{Causes, Printed, Ran}
 use Rattle.fs_top.proofs.Once.{causes_once}

@@ -1,13 +1,13 @@
 -- Lines, frames and tales, computed.
-use Rattle.std.proofs.Common.{◌≡◌, ℕ, ◌++◌, List, [], ◌∷◌, length, replicate, codes, refl, arith}
+use Rattle.std.proofs.Common.{◌≡◌, ◌++◌, List, [], ◌∷◌, length, replicate, codes, refl}
 use Rattle.smb_link.specs.declared.event.Event.{Event}
 use Rattle.smb_link.specs.declared.event.Event.TheVariants.{Got, Quiet}
 use Rattle.fs_top.specs.declared.ending.Ending.TheVariants as ending
 use Rattle.fs_top.specs.declared.ending.Kind.TheVariants as kind
-use Rattle.fs_top.specs.Came.{counted_all, is_silence}
-use Rattle.fs_top.specs.Endings.{status_of, text_of}
+use Rattle.smb_link.specs.Came.{counted_all, is_silence}
+use Rattle.fs_top.specs.Endings.{text_of}
 use Rattle.fs_top.specs.Request.{ping_frame}
-use Rattle.fs_top.specs.Tale.{bytes_got, quiets_at_end, Listens}
+use Rattle.fs_top.specs.Tale.{bytes_got, quiets_at_end}
 
 -- the frame has 106 bytes
 frame_length : length (ping_frame (replicate 16 7)) ≡ 106

@@ -1,4 +1,3 @@
-pub mod CameLaws
 pub mod Partial
 pub mod Ports
 pub mod Printed

@@ -83,9 +83,7 @@ last_ends_once : (heard : List Event) (last : Event) (e f : Ending) → LastEnds
 last_ends_once heard (Got bytes) e f x y = first_ends_once (first_of (bytes_got heard ++ bytes)) e f x y
 last_ends_once heard Quiet e f x y = x.1 ∙ sym y.1
 last_ends_once heard Cut e f x y = x ∙ sym y
-last_ends_once heard (Sent frame) e f x y = absurd x
-last_ends_once heard Joined e f x y = absurd x
-last_ends_once heard NotJoined e f x y = absurd x
+last_ends_once heard event e f x y = absurd x
 
 -- events with one more at their end are known by their front and that one
 last_once : (xs ys : List Event) (x y : Event) → xs ++ x ∷ [] ≡ ys ++ y ∷ [] → (xs ≡ ys) × (x ≡ y)

@@ -2,13 +2,13 @@
 use Rattle.std.proofs.Common.{◌≡◌, ◌<◌, ℕ, ◌+◌, List, [], ◌∷◌, ◌++◌, refl, ap, sym, ◌∙◌, subst, append_assoc, arith}
 use Rattle.std.proofs.lemmas.List.{append-nil}
 use Rattle.smb_link.specs.declared.event.Event.{Event}
-use Rattle.smb_link.specs.declared.event.Event.TheVariants.{Sent, Got, Quiet, Joined, NotJoined, Cut}
+use Rattle.smb_link.specs.declared.event.Event.TheVariants.{Got, Quiet, Cut}
 use Rattle.smb_head.specs.Stream.{Partial, first_of}
 use Rattle.fs_top.specs.declared.ending.Ending.{Ending}
 use Rattle.fs_top.specs.declared.ending.Ending.TheVariants as ending
-use Rattle.fs_top.specs.Came.{Seen, Came}
+use Rattle.smb_link.specs.Came.{Seen, Came}
 use Rattle.fs_top.specs.Tale.{bytes_got, quiets_at_end, Listens, GoesOn, FirstEnds, LastEnds, WaitEnds, HeardBy, Heard}
-use Rattle.fs_top.proofs.CameLaws.{came_none, came_then}
+use Rattle.smb_link.proofs.CameLaws.{came_none, came_then}
 
 -- a call waits: these events came since the start and decide nothing, the bytes of them are held, and so many waits in vain stand at their end
 pub record Waiting (old new : Seen) (held : List ℕ) (quiets : ℕ) : Type 0 where
@@ -21,11 +21,7 @@ pub record Waiting (old new : Seen) (held : List ℕ) (quiets : ℕ) : Type 0 wh
 pub bytes_got-append : (xs ys : List Event) → bytes_got (xs ++ ys) ≡ bytes_got xs ++ bytes_got ys
 bytes_got-append [] ys = refl
 bytes_got-append (Got bytes ∷ xs) ys = ap (λ (b : List ℕ). bytes ++ b) (bytes_got-append xs ys) ∙ sym (append_assoc bytes (bytes_got xs) (bytes_got ys))
-bytes_got-append (Sent frame ∷ xs) ys = bytes_got-append xs ys
-bytes_got-append (Quiet ∷ xs) ys = bytes_got-append xs ys
-bytes_got-append (Joined ∷ xs) ys = bytes_got-append xs ys
-bytes_got-append (NotJoined ∷ xs) ys = bytes_got-append xs ys
-bytes_got-append (Cut ∷ xs) ys = bytes_got-append xs ys
+bytes_got-append (event ∷ xs) ys = bytes_got-append xs ys
 
 bytes_got-push : (events : List Event) (bytes : List ℕ) → bytes_got (events ++ Got bytes ∷ []) ≡ bytes_got events ++ bytes
 bytes_got-push events bytes = bytes_got-append events (Got bytes ∷ []) ∙ ap (λ (b : List ℕ). bytes_got events ++ b) (append-nil bytes)
@@ -37,47 +33,32 @@ quiets_at_end-got : (n : ℕ) (events : List Event) (bytes : List ℕ) → quiet
 quiets_at_end-got n [] bytes = refl
 quiets_at_end-got n (Got b ∷ events) bytes = quiets_at_end-got 0 events bytes
 quiets_at_end-got n (Quiet ∷ events) bytes = quiets_at_end-got (n + 1) events bytes
-quiets_at_end-got n (Sent frame ∷ events) bytes = quiets_at_end-got n events bytes
-quiets_at_end-got n (Joined ∷ events) bytes = quiets_at_end-got n events bytes
-quiets_at_end-got n (NotJoined ∷ events) bytes = quiets_at_end-got n events bytes
-quiets_at_end-got n (Cut ∷ events) bytes = quiets_at_end-got n events bytes
+quiets_at_end-got n (event ∷ events) bytes = quiets_at_end-got n events bytes
 
 quiets_at_end-silence : (n : ℕ) (events : List Event) → quiets_at_end n (events ++ Quiet ∷ []) ≡ quiets_at_end n events + 1
 quiets_at_end-silence n [] = refl
 quiets_at_end-silence n (Got b ∷ events) = quiets_at_end-silence 0 events
 quiets_at_end-silence n (Quiet ∷ events) = quiets_at_end-silence (n + 1) events
-quiets_at_end-silence n (Sent frame ∷ events) = quiets_at_end-silence n events
-quiets_at_end-silence n (Joined ∷ events) = quiets_at_end-silence n events
-quiets_at_end-silence n (NotJoined ∷ events) = quiets_at_end-silence n events
-quiets_at_end-silence n (Cut ∷ events) = quiets_at_end-silence n events
+quiets_at_end-silence n (event ∷ events) = quiets_at_end-silence n events
 
 listens_got : (n : ℕ) (events : List Event) (bytes : List ℕ) → Listens n events → Listens n (events ++ Got bytes ∷ [])
 listens_got n [] bytes h = (h, omega arith)
 listens_got n (Got b ∷ events) bytes h = (h.0, listens_got 0 events bytes h.1)
 listens_got n (Quiet ∷ events) bytes h = (h.0, listens_got (n + 1) events bytes h.1)
-listens_got n (Sent frame ∷ events) bytes h = absurd h
-listens_got n (Joined ∷ events) bytes h = absurd h
-listens_got n (NotJoined ∷ events) bytes h = absurd h
-listens_got n (Cut ∷ events) bytes h = absurd h
+listens_got n (event ∷ events) bytes h = absurd h
 
 listens_silence : (n : ℕ) (events : List Event) → Listens n events → quiets_at_end n events + 1 < 300 → Listens n (events ++ Quiet ∷ [])
 listens_silence n [] h few = (h, few)
 listens_silence n (Got b ∷ events) h few = (h.0, listens_silence 0 events h.1 few)
 listens_silence n (Quiet ∷ events) h few = (h.0, listens_silence (n + 1) events h.1 few)
-listens_silence n (Sent frame ∷ events) h few = absurd h
-listens_silence n (Joined ∷ events) h few = absurd h
-listens_silence n (NotJoined ∷ events) h few = absurd h
-listens_silence n (Cut ∷ events) h few = absurd h
+listens_silence n (event ∷ events) h few = absurd h
 
 -- fewer than 300 waits in vain stand at the end
 quiets_few : (n : ℕ) (events : List Event) → Listens n events → quiets_at_end n events < 300
 quiets_few n [] h = h
 quiets_few n (Got b ∷ events) h = quiets_few 0 events h.1
 quiets_few n (Quiet ∷ events) h = quiets_few (n + 1) events h.1
-quiets_few n (Sent frame ∷ events) h = absurd h
-quiets_few n (Joined ∷ events) h = absurd h
-quiets_few n (NotJoined ∷ events) h = absurd h
-quiets_few n (Cut ∷ events) h = absurd h
+quiets_few n (event ∷ events) h = absurd h
 
 pub waiting_few : (old new : Seen) (held : List ℕ) (quiets : ℕ) → Waiting old new held quiets → quiets < 300
 waiting_few old new held quiets w = rw w.quiets_are (quiets_few 0 w.heard w.went_on.listens)

@@ -1,7 +1,7 @@
 -- What the counts of a link alone tell of a run, also where it tells no story.
 use Rattle.std.specs.Prelude.{◌≡◌, ◌≢◌, ◌≤◌, ◌<◌, ◌⊎◌, ℕ, ◌+◌, ◌-◌, ◌^◌, Bool, min}
 use Rattle.smb_link.specs.Count.{counted, Rose}
-use Rattle.fs_top.specs.Came.{Seen}
+use Rattle.smb_link.specs.Came.{Seen}
 
 -- the status of a lost connection, or one that goes before it: memory ran out, or the sink refused the line
 abbrev pub IsLost : ℕ → Type 0

@@ -1,4 +1,3 @@
-pub mod Came
 pub mod Counts
 pub mod Endings
 pub mod Printing

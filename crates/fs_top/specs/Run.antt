@@ -1,10 +1,11 @@
--- What the top call does: what happens at the link, how that ends, and what is printed of it.
+-- What the top call does: what the client does and gets at the link, how that ends, and what is printed of it. Events of the share are none
+-- of the client's, and say nothing here.
 use Rattle.std.specs.Prelude.{◌≡◌, ◌⊎◌, ℕ, Bool, List, [], ◌∷◌, ◌++◌, if◌then◌else◌}
 use Rattle.smb_link.specs.declared.event.Event.{Event}
 use Rattle.smb_link.specs.declared.event.Event.TheVariants.{Sent, Joined, NotJoined, Cut}
 use Rattle.fs_top.specs.declared.ending.Ending.{Ending}
 use Rattle.fs_top.specs.declared.ending.Ending.TheVariants.{Greeted, Words, Memory, Dialect, Frame, Connects, Cuts}
-use Rattle.fs_top.specs.Came.{Seen, Came}
+use Rattle.smb_link.specs.Came.{Seen, Came}
 use Rattle.fs_top.specs.Endings.{status_of, text_of}
 use Rattle.fs_top.specs.Printing.{Held, TookAll, TookFront}
 use Rattle.fs_top.specs.Request.{ping_frame}
@@ -20,7 +21,7 @@ abbrev pub AskedEnds : Bool → List ℕ → List Event → Ending → Type 0
 AskedEnds stood seed events ending =
     (waited : List Event) × (events ≡ opening stood ++ Joined ∷ Sent (ping_frame seed) ∷ waited) × WaitEnds waited ending
 
--- what happens at the link in a ping with each ending. Want of memory has no cause
+-- the client's events at the link in a ping with each ending. Want of memory has no cause
 abbrev pub PingEnds : Bool → List ℕ → List Event → Ending → Type 0
 PingEnds stood seed events Connects = events ≡ opening stood ++ NotJoined ∷ []
 PingEnds stood seed events Cuts = AskedEnds stood seed events Cuts
@@ -50,8 +51,8 @@ Printed ending old new status =
     ((status ≡ status_of ending) × TookAll (text_of ending) old new)
     ⊎ ((status ≡ 8) × TookFront (text_of ending) old new)
 
--- a run of the program: these events came at the link, it ended so, for that cause unless memory ran out, no other ending has a cause in
--- them, and the ending was printed
+-- a run of the program: these events of the client came at the link, it ended so, for that cause unless memory ran out, no other ending has
+-- a cause in them, and the ending was printed
 pub record Ran (words : List (List ℕ)) (stood : Bool) (seed : List ℕ) (link link' : Seen) (sink sink' : Held) (status : ℕ) : Type 0 where
   pub events : List Event
   pub came : Came events link link'

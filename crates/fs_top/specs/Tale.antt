@@ -1,43 +1,33 @@
--- What happens at the link in one ping, and which ending it has.
+-- What the client does and gets at the link in one ping, and which ending that has.
 use Rattle.std.specs.Prelude.{◌≡◌, ◌<◌, ℕ, ◌+◌, List, [], ◌∷◌, ◌++◌}
 use Rattle.smb_link.specs.declared.event.Event.{Event}
-use Rattle.smb_link.specs.declared.event.Event.TheVariants.{Sent, Got, Quiet, Joined, NotJoined, Cut}
+use Rattle.smb_link.specs.declared.event.Event.TheVariants.{Got, Quiet, Cut}
 use Rattle.smb_head.specs.Stream.{First, Partial, Whole, Bad, first_of}
 use Rattle.fs_top.specs.declared.ending.Ending.{Ending}
 use Rattle.fs_top.specs.declared.ending.Ending.TheVariants.{Memory, Frame, Cuts}
 use Rattle.fs_top.specs.declared.ending.Kind.TheVariants.{Length}
-use Rattle.fs_top.specs.Came.{Seen, Came}
+use Rattle.smb_link.specs.Came.{Seen, Came}
 use Rattle.fs_top.specs.Verdict.{MessageEnds}
 
 -- all bytes that came, in their order
 abbrev pub bytes_got : List Event → List ℕ
 bytes_got [] = []
 bytes_got (Got bytes ∷ events) = bytes ++ bytes_got events
-bytes_got (Sent frame ∷ events) = bytes_got events
-bytes_got (Quiet ∷ events) = bytes_got events
-bytes_got (Joined ∷ events) = bytes_got events
-bytes_got (NotJoined ∷ events) = bytes_got events
-bytes_got (Cut ∷ events) = bytes_got events
+bytes_got (event ∷ events) = bytes_got events
 
 -- how many waits in vain stand in a row at the end of these events, after so many before them
 abbrev pub quiets_at_end : ℕ → List Event → ℕ
 quiets_at_end n [] = n
 quiets_at_end n (Quiet ∷ events) = quiets_at_end (n + 1) events
 quiets_at_end n (Got bytes ∷ events) = quiets_at_end 0 events
-quiets_at_end n (Sent frame ∷ events) = quiets_at_end n events
-quiets_at_end n (Joined ∷ events) = quiets_at_end n events
-quiets_at_end n (NotJoined ∷ events) = quiets_at_end n events
-quiets_at_end n (Cut ∷ events) = quiets_at_end n events
+quiets_at_end n (event ∷ events) = quiets_at_end n events
 
--- bytes come, or nothing comes, but never 300 times in a row, after so many before
+-- bytes come, or nothing comes, but never 300 times in a row, after so many before; and nothing else happens
 abbrev pub Listens : ℕ → List Event → Type 0
 Listens n [] = n < 300
 Listens n (Quiet ∷ events) = (n < 300) × Listens (n + 1) events
 Listens n (Got bytes ∷ events) = (n < 300) × Listens 0 events
-Listens n (Sent frame ∷ events) = ⊥
-Listens n (Joined ∷ events) = ⊥
-Listens n (NotJoined ∷ events) = ⊥
-Listens n (Cut ∷ events) = ⊥
+Listens n (event ∷ events) = ⊥
 
 -- the wait for the first frame goes on: what came is less than a frame
 pub record GoesOn (heard : List Event) : Type 0 where
@@ -55,9 +45,7 @@ abbrev pub LastEnds : List Event → Event → Ending → Type 0
 LastEnds heard (Got bytes) ending = FirstEnds (first_of (bytes_got heard ++ bytes)) ending
 LastEnds heard Quiet ending = (quiets_at_end 0 heard ≡ 299) × (ending ≡ Cuts)
 LastEnds heard Cut ending = ending ≡ Cuts
-LastEnds heard (Sent frame) ending = ⊥
-LastEnds heard Joined ending = ⊥
-LastEnds heard NotJoined ending = ⊥
+LastEnds heard event ending = ⊥
 
 -- the wait for the first frame, up to its end
 pub record WaitEnds (events : List Event) (ending : Ending) : Type 0 where

@@ -3,7 +3,7 @@
 ghost use Rattle.std.specs.Prelude.{◌≡◌, ◌++◌, List, IfSome, IfNone, MatchOption, ◌⊎◌};
 ghost use Rattle.smb_head.specs.Stream.{first_of, Partial};
 ghost use Rattle.smb_link.specs.declared.event.Event.{Event};
-ghost use Rattle.fs_top.specs.Came.{seen_by, Came};
+ghost use Rattle.smb_link.specs.Came.{seen_by, Came};
 ghost use Rattle.fs_top.specs.Tale.{FirstEnds, Heard};
 ghost use Rattle.fs_top.specs.Verdict.{EndsWait};
 

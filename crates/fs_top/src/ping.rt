@@ -2,7 +2,7 @@
 
 ghost use Rattle.std.specs.Prelude.{◌≡◌, ◌⊎◌, List};
 ghost use Rattle.smb_link.specs.declared.event.Event.{Event};
-ghost use Rattle.fs_top.specs.Came.{seen_by, Came};
+ghost use Rattle.smb_link.specs.Came.{seen_by, Came};
 ghost use Rattle.fs_top.specs.Run.{PingEnds};
 
 use crate::ending::Ending;

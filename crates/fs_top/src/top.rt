@@ -3,7 +3,7 @@
 ghost use Rattle.std.specs.Prelude.{◌≡◌, ◌≢◌, ◌⊎◌, List, map, string_bytes};
 ghost use Rattle.smb_link.specs.declared.event.Event.{Event};
 ghost use Rattle.fs_top.specs.declared.ending.Ending.{Ending};
-ghost use Rattle.fs_top.specs.Came.{seen_by, Came};
+ghost use Rattle.smb_link.specs.Came.{seen_by, Came};
 ghost use Rattle.fs_top.specs.Counts.{ByCounts};
 ghost use Rattle.fs_top.specs.Printing.{held_by, TookAll, TookFront};
 ghost use Rattle.fs_top.specs.Run.{Ran, Causes, Printed};

@@ -1,1 +1,2 @@
+pub mod CameLaws
 pub mod Turns

@@ -1,5 +1,10 @@
+pub mod Came
 pub mod Count
 pub mod Flow
 pub mod Given
 pub mod Memory
 pub mod Story
+pub mod Locals
+pub mod Program
+pub mod Stat
+pub mod Calls

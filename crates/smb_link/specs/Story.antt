@@ -1,5 +1,8 @@
 -- What each call of a link adds to its story, and what it makes of the connection.
 use Rattle.std.specs.Prelude.{◌≡◌, ℕ, ◌++◌, List, [], ◌∷◌, take, Option, option_map, Result, Ok, Err, Bool, true, false, not, ◌&&◌, if◌then◌else◌}
+use Rattle.std.specs.List.{list_all}
+use Rattle.smb_base.specs.declared.names.NoMemory.{NoMemory}
+use Rattle.smb_link.specs.declared.mark.Mark.{Mark}
 use Rattle.smb_link.specs.declared.event.Event.{Event}
 use Rattle.smb_link.specs.declared.event.Event.TheVariants as event
 use Rattle.smb_link.specs.declared.faults.LinkFail.{LinkFail}
@@ -10,6 +13,25 @@ use Rattle.smb_link.specs.declared.faults.Got.TheVariants as got
 -- a story with more events at its end; what is not told stays untold
 abbrev pub told : Option (List Event) → List Event → Option (List Event)
 told story events = option_map (λ so_far. so_far ++ events) story
+
+-- what the share did, of itself or for another client; all else is the client's own
+abbrev pub is_of_share : Event → Bool
+is_of_share (event.Marked mark) = false
+is_of_share (event.Sent frame) = false
+is_of_share (event.Got bytes) = false
+is_of_share event.Quiet = false
+is_of_share event.Joined = false
+is_of_share event.NotJoined = false
+is_of_share event.Cut = false
+is_of_share (event.Took mid) = true
+is_of_share (event.Pend mid) = true
+is_of_share (event.Act who request reply) = true
+is_of_share (event.Break key state) = true
+is_of_share (event.Dropped key) = true
+
+-- a story gained these events of the client, and any of the share before them
+abbrev pub Gains : List Event → Option (List Event) → Option (List Event) → Type 0
+Gains own old new = (share : List Event) × (list_all is_of_share share ≡ true) × (new ≡ told old (share ++ own))
 
 -- the call failed for the connection, not for want of memory
 abbrev pub is_failed : Result (Unit {0}) LinkFail → Bool
@@ -29,15 +51,28 @@ StandsAfterConnect stood stands (Ok x) = stands ≡ true
 StandsAfterConnect stood stands (Err fail.Failed) = stands ≡ false
 StandsAfterConnect stood stands (Err fail.NoMemory) = stands ≡ true → stood ≡ true
 
--- a connect adds the end of the connection that it ends, and then whether it joined
+-- a connect adds the end of the connection that it ends, and then whether it joined: here the latter
 abbrev pub join_events : Result (Unit {0}) LinkFail → List Event
 join_events (Ok x) = event.Joined ∷ []
 join_events (Err fail.Failed) = event.NotJoined ∷ []
 join_events (Err fail.NoMemory) = []
 
+-- the end of the connection that a connect ends
+abbrev pub ended_events : Bool → Bool → Result (Unit {0}) LinkFail → List Event
+ended_events stood stands result = if connect_cuts stood stands result then event.Cut ∷ [] else []
+
 abbrev pub connect_events : Bool → Bool → Result (Unit {0}) LinkFail → List Event
-connect_events stood stands result =
-    (if connect_cuts stood stands result then event.Cut ∷ [] else []) ++ join_events result
+connect_events stood stands result = ended_events stood stands result ++ join_events result
+
+-- the share may go on before the one and before the other
+abbrev pub GainsByConnect : Bool → Bool → Result (Unit {0}) LinkFail → Option (List Event) → Option (List Event) → Type 0
+GainsByConnect stood stands result old new =
+    (between : Option (List Event)) × Gains (ended_events stood stands result) old between × Gains (join_events result) between new
+
+-- a mark adds itself
+abbrev pub mark_events : Mark → Result (Unit {0}) NoMemory → List Event
+mark_events mark (Ok x) = event.Marked mark ∷ []
+mark_events mark (Err e) = []
 
 -- a send adds its frame, and where it failed the end of the connection
 abbrev pub send_events : List ℕ → Result (Unit {0}) LinkFail → List Event

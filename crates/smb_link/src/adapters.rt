@@ -7,7 +7,9 @@ ghost use Rattle.smb_link.specs.Count.{counted};
 ghost use Rattle.smb_link.specs.Story.{IfBytes};
 
 use crate::faults::{Failed, Got, LinkFail};
+use crate::mark::Mark;
 use crate::traits::{Clock, Link, Sink, Source};
+use smb_base::NoMemory;
 use std::io::{ErrorKind, Read, Write};
 use std::net::{Net, OpenStream, TcpStream};
 use std::time::{Duration, Instant};
@@ -204,6 +206,10 @@ impl<N: Net> Link for TcpLink<N> {
             _ => {}
         }
         got
+    }
+
+    fn mark(&mut self, _mark: &Mark) -> Result<(), NoMemory> {
+        Ok(())
     }
 }
 

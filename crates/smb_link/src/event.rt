@@ -1,14 +1,18 @@
 //! The story of a link.
 
-ghost use Rattle.std.specs.Prelude.{◌≡◌, ◌++◌, ◌∷◌, [], OnOk, OnErr};
+ghost use Rattle.std.specs.Prelude.{◌≡◌, ◌-◌, ◌++◌, ◌∷◌, [], OnOk, OnErr, length, take};
 
-use smb_base::{Bytes, NoMemory};
+use crate::mark::Mark;
+use share_spec::{Rep, Req};
+use smb_base::{Bytes, Key, Mid, NoMemory};
 use std::alloc::Global;
 use std::marker::Model;
 
-/// What happened at a link.
+/// What happened at a link: first what the client did and got, then what the share did meanwhile.
 #[derive(Debug, Drop)]
 pub enum Event {
+    /// The program said this of itself.
+    Marked(Mark),
     /// This frame was given to the connection, its four bytes of length included.
     Sent(Bytes),
     /// These bytes came.
@@ -21,6 +25,16 @@ pub enum Event {
     NotJoined,
     /// The connection is gone.
     Cut,
+    /// The share did the request with this message id.
+    Took(Mid),
+    /// The share put the request with this message id off, and owes an interim reply (MS-SMB2 3.3.4.2).
+    Pend(Mid),
+    /// Another client, by its number, made this request and got this reply.
+    Act(u32, Req, Rep),
+    /// The share asked that the lease under this key be broken to this state (MS-SMB2 2.2.23.2).
+    Break(Key, u8),
+    /// The share dropped the disconnected opens under this key.
+    Dropped(Key),
 }
 
 /// Events in their order. A contract sees the list of them.
@@ -69,13 +83,23 @@ impl EventList {
         ensures ok { OnOk result (self.new ≡ self.old ++ first ∷ second ∷ []) }
         ensures err { OnErr result (self.new ≡ self.old) }
     {
-        self.held.push(first)?;
-        match self.held.push(second) {
+        self.push(first)?;
+        match self.push(second) {
             Ok(()) => Ok(()),
-            Err(_) => {
-                let _ = self.held.pop();
+            Err(NoMemory) => {
+                self.drop_last();
                 Err(NoMemory)
             }
+        }
+    }
+
+    /// Drops the last event, where there is one.
+    fn drop_last(&mut self)
+        ensures { self.new ≡ take (length self.old - 1) self.old }
+    {
+        let count = self.held.len();
+        if count > 0 {
+            self.held.truncate(count - 1);
         }
     }
 }

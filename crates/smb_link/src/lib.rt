@@ -6,6 +6,7 @@ mod clocks;
 mod event;
 mod faults;
 mod list_link;
+mod mark;
 mod sinks;
 mod sources;
 #[cfg(test)]
@@ -17,6 +18,7 @@ pub use clocks::MemClock;
 pub use event::{Event, EventList};
 pub use faults::{Failed, Got, LinkFail};
 pub use list_link::{Given, GivenList, ListLink};
+pub use mark::Mark;
 pub use sinks::{MemSink, SureSink};
 pub use sources::{MemSource, SureSource};
 pub use traits::{Clock, Link, Sink, Source};

@@ -8,6 +8,7 @@ ghost use Rattle.smb_link.specs.Story.{told, is_failed, connect_cuts, StandsAfte
 
 use crate::event::{Event, EventList};
 use crate::faults::{Got, LinkFail};
+use crate::mark::Mark;
 use crate::traits::Link;
 use smb_base::{Bytes, NoMemory};
 use std::alloc::Global;
@@ -401,6 +402,14 @@ impl Link for ListLink {
                 Err(NoMemory) => Got::NoMemory,
             },
         }
+    }
+
+    fn mark(&mut self, mark: &Mark) -> Result<(), NoMemory>
+        ensures ok { OnOk result (self.new ≡ record self.old { story = self.old.story ++ event.Marked mark.now ∷ [] }) }
+        ensures err { OnErr result (self.new ≡ self.old) }
+    {
+        let copy = mark.copied(self.alloc)?;
+        self.story.push(Event::Marked(copy))
     }
 }
 

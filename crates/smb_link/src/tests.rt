@@ -1,5 +1,6 @@
 use super::*;
-use smb_base::{Bytes, U64List};
+use fs_types::{Answer, Call};
+use smb_base::{Bytes, Mid, U64List};
 use std::io;
 use std::io::{Read, Write};
 use std::net::TcpListener;
@@ -73,6 +74,7 @@ fn a_link_in_memory_gives_its_turns_and_tells_its_story(rt: HostRuntime) {
     }
     let mut link = ListLink::new(rt.alloc(), 1, turns);
     let mut buf = [0; 2];
+    assert!(rt; link.mark(&Mark::Now(5)).is_ok());
     assert!(rt; matches!(link.connect("h", 445), Err(LinkFail::Failed)));
     assert!(rt; matches!(link.receive(&mut buf), Got::Closed));
     assert!(rt; matches!(link.connect("h", 445), Ok(())));
@@ -88,13 +90,21 @@ fn a_link_in_memory_gives_its_turns_and_tells_its_story(rt: HostRuntime) {
     assert!(rt; matches!(link.connect("h", 445), Ok(())));
     assert!(rt; matches!(link.receive(&mut buf), Got::Bytes(1)));
     assert!(rt; matches!(link.receive(&mut buf), Got::Closed));
+    for mark in [
+        Mark::Begin(1, 2, Call::Statfs),
+        Mark::For(1, Mid(9), 3),
+        Mark::Answer(1, Answer::Count(4)),
+        Mark::End,
+    ] {
+        assert!(rt; link.mark(&mark).is_ok());
+    }
     let story = match format!(in rt.alloc(); "{:?}", link.story().as_slice()) {
         Ok(story) => story,
         Err(_) => panic!(rt; "no memory"),
     };
     assert_eq!(rt;
         story.as_str(),
-        "[NotJoined, Cut, Joined, Sent(Bytes { held: [7] }), Got(Bytes { held: [1, 2] }), Got(Bytes { held: [3] }), Quiet, Cut, Sent(Bytes { held: [8] }), Cut, Joined, Cut, Joined, Got(Bytes { held: [4] }), Cut]"
+        "[Marked(Now(5)), NotJoined, Cut, Joined, Sent(Bytes { held: [7] }), Got(Bytes { held: [1, 2] }), Got(Bytes { held: [3] }), Quiet, Cut, Sent(Bytes { held: [8] }), Cut, Joined, Cut, Joined, Got(Bytes { held: [4] }), Cut, Marked(Begin(1, 2, Statfs)), Marked(For(1, Mid(9), 3)), Marked(Answer(1, Count(4))), Marked(End)]"
     );
 }
 
@@ -145,6 +155,7 @@ fn a_tcp_link_joins_sends_receives_waits_and_finds_the_end(rt: HostRuntime) {
     };
     let mut link = TcpLink::new(net);
     let mut buf = [0; 8];
+    assert!(rt; link.mark(&Mark::End).is_ok());
     assert!(rt; matches!(link.receive(&mut buf), Got::Closed));
     assert!(rt; matches!(link.send(b"x"), Err(LinkFail::Failed)));
     assert!(rt; matches!(link.connect("127.0.0.1", address.port()), Ok(())));

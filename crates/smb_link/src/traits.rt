@@ -5,9 +5,11 @@ ghost use Rattle.std.specs.Prelude.{◌≡◌, ℕ, ◌≤◌, ◌<◌, ◌&&◌
 ghost use Rattle.smb_link.specs.declared.event.Event.{Event};
 ghost use Rattle.smb_link.specs.Count.{counted};
 ghost use Rattle.smb_link.specs.Flow.{left_after, GaveFirst, written_after, stalled};
-ghost use Rattle.smb_link.specs.Story.{told, is_failed, connect_cuts, StandsAfterConnect, connect_events, send_events, receive_events, is_closed, is_quiet, IfBytes};
+ghost use Rattle.smb_link.specs.Story.{is_failed, connect_cuts, StandsAfterConnect, Gains, GainsByConnect, send_events, receive_events, mark_events, is_closed, is_quiet, IfBytes};
 
 use crate::faults::{Failed, Got, LinkFail};
+use crate::mark::Mark;
+use smb_base::NoMemory;
 
 /// Where bytes are read from.
 pub trait Source {
@@ -51,7 +53,8 @@ pub trait Clock {
     fn now(&mut self) -> u64;
 }
 
-/// A connection to a server, one at a time, and the story that it tells.
+/// A connection to a server, one at a time, and the story that it tells. Each call adds its own events to the story; before them the
+/// share behind the connection may have gone on, which adds events of its own.
 pub trait Link {
     /// What happened so far.
     ghost story: { Self → Option (List Event) };
@@ -70,7 +73,7 @@ pub trait Link {
 
     /// Makes a connection. One that stands is ended first.
     fn connect(&mut self, host: &str, port: u16) -> Result<(), LinkFail>
-        ensures story { story self.new ≡ told (story self.old) (connect_events (stands self.old) (stands self.new) result) }
+        ensures story { GainsByConnect (stands self.old) (stands self.new) result (story self.old) (story self.new) }
         ensures stands { StandsAfterConnect (stands self.old) (stands self.new) result }
         ensures faults { connect_faults self.new ≡ counted (connect_faults self.old) (is_failed result) }
         ensures cuts { cuts self.new ≡ counted (cuts self.old) (connect_cuts (stands self.old) (stands self.new) result) }
@@ -79,7 +82,7 @@ pub trait Link {
     /// Sends a whole frame, its four bytes of length included. After a failure there is no connection. Want of memory sends
     /// nothing.
     fn send(&mut self, frame: &[u8]) -> Result<(), LinkFail>
-        ensures story { story self.new ≡ told (story self.old) (send_events frame.now result) }
+        ensures story { Gains (send_events frame.now result) (story self.old) (story self.new) }
         ensures standing { OnOk result (IsTrue (stands self.old)) }
         ensures stands { stands self.new ≡ (stands self.old && not (is_failed result)) }
         ensures faults { connect_faults self.new ≡ connect_faults self.old }
@@ -91,9 +94,17 @@ pub trait Link {
     fn receive(&mut self, buf: &mut [u8]) -> Got
         requires { 0 < length buf.old }
         ensures bytes { IfBytes result (λ n. (1 ≤ n) × (n ≤ length buf.old) × IsTrue (stands self.old)) }
-        ensures story { story self.new ≡ told (story self.old) (receive_events buf.new result) }
+        ensures story { Gains (receive_events buf.new result) (story self.old) (story self.new) }
         ensures stands { stands self.new ≡ (stands self.old && not (is_closed result)) }
         ensures faults { connect_faults self.new ≡ connect_faults self.old }
         ensures cuts { cuts self.new ≡ counted (cuts self.old) (is_closed result) }
         ensures quiets { quiets self.new ≡ counted (quiets self.old) (is_quiet result) };
+
+    /// Puts a mark into the story. It changes nothing else, and for want of memory adds none.
+    fn mark(&mut self, mark: &Mark) -> Result<(), NoMemory>
+        ensures story { Gains (mark_events mark.now result) (story self.old) (story self.new) }
+        ensures stands { stands self.new ≡ stands self.old }
+        ensures faults { connect_faults self.new ≡ connect_faults self.old }
+        ensures cuts { cuts self.new ≡ cuts self.old }
+        ensures quiets { quiets self.new ≡ quiets self.old };
 }

@@ -1,9 +1,11 @@
 use Rattle.std.proofs.Common.{◌≡◌, ◌≢◌, ◌+◌, ◌∙◌, ℕ, List, [], ◌∷◌, ◌++◌, inl, inr, take, drop, length, length-append, length-take, sym, ap, subst, arith}
 use Rattle.smb_link.specs.declared.event.Event.TheVariants.{Got}
+use Rattle.smb_link.specs.declared.faults.Got.TheVariants as got
+use Rattle.smb_link.proofs.CameLaws.{came_receive}
 use Rattle.std.proofs.lemmas.List.{take-append-le, length-take-le}
 use Rattle.smb_head.specs.Stream.{first_of, Partial}
 use Rattle.fs_top.specs.declared.ending.Ending.{Ending}
-use Rattle.fs_top.specs.Came.{seen_by, Came}
+use Rattle.smb_link.specs.Came.{seen_by, Came}
 use Rattle.fs_top.specs.Tale.{FirstEnds, Heard}
 use Rattle.fs_top.proofs.Partial.{first_of-nothing, partial_short, partial_lacks}
 use Rattle.fs_top.proofs.Waiting.{Waiting, waiting_none, waiting_few, waiting_undecided, waiting_got, waiting_silence, heard_got, heard_silence, heard_cut, heard_memory}
@@ -25,7 +27,7 @@ returns-in-Some-clause-heard g c =
     let seen = seen_by g.L.Link.story g.L.Link.connect_faults g.L.Link.cuts g.L.Link.quiets in
     let kept : length c.receive.new.buf ≡ length (take c.min-room.result c.loop-n.buf) = c.receive.auto.buf in
     let piece : take c.in-Bytes.n (c.receive.new.buf ++ drop c.min-room.result c.loop-n.buf) ≡ take c.in-Bytes.n c.receive.new.buf = take-append-le c.in-Bytes.n c.receive.new.buf (drop c.min-room.result c.loop-n.buf) (omega (arith, e.bytes.1)) in
-    let came : Came (Got (take c.in-Bytes.n c.receive.new.buf) ∷ []) (seen c.loop-n.link) (seen c.receive.new.self) = record { story = e.story; connect_faults = e.faults; cuts = e.cuts; quiets = e.quiets } in
+    let came : Came (Got (take c.in-Bytes.n c.receive.new.buf) ∷ []) (seen c.loop-n.link) (seen c.receive.new.self) = came_receive (seen c.loop-n.link) (seen c.receive.new.self) c.receive.new.buf (got.Bytes c.in-Bytes.n) e.story e.faults e.cuts e.quiets in
     elim c.in-Some.ensures.ends [
       | inl memory ↦ subst (λ (x : Ending). Heard (seen c.args.link.now) (seen c.receive.new.self) x) (sym memory) (heard_memory _ _ _ _ _ (Got (take c.in-Bytes.n c.receive.new.buf) ∷ []) w came)
       | inr ends ↦ heard_got _ _ _ _ _ (take c.in-Bytes.n c.receive.new.buf) c.in-Some.ending w came (subst (λ (p : List ℕ). FirstEnds (first_of (c.loop-n.frames ++ p)) c.in-Some.ending) piece ends)
@@ -51,7 +53,7 @@ loop-n-preserved-in_default g c =
     let kept : length c.receive.new.buf ≡ length (take c.min-room.result c.loop-n.buf) = c.receive.auto.buf in
     let piece : take c.in-Bytes.n (c.receive.new.buf ++ drop c.min-room.result c.loop-n.buf) ≡ take c.in-Bytes.n c.receive.new.buf = take-append-le c.in-Bytes.n c.receive.new.buf (drop c.min-room.result c.loop-n.buf) (omega (arith, e.bytes.1)) in
     let held : c.take_in.new.frames ≡ c.loop-n.frames ++ take c.in-Bytes.n c.receive.new.buf = went.0 ∙ ap (λ (p : List ℕ). c.loop-n.frames ++ p) piece in
-    let came : Came (Got (take c.in-Bytes.n c.receive.new.buf) ∷ []) (seen c.loop-n.link) (seen c.receive.new.self) = record { story = e.story; connect_faults = e.faults; cuts = e.cuts; quiets = e.quiets } in
+    let came : Came (Got (take c.in-Bytes.n c.receive.new.buf) ∷ []) (seen c.loop-n.link) (seen c.receive.new.self) = came_receive (seen c.loop-n.link) (seen c.receive.new.self) c.receive.new.buf (got.Bytes c.in-Bytes.n) e.story e.faults e.cuts e.quiets in
     let undecided = subst (λ (p : List ℕ). first_of (c.loop-n.frames ++ p) ≡ Partial) piece went.1 in
     subst (λ (h : List ℕ). Waiting (seen c.args.link.now) (seen c.receive.new.self) h 0) (sym held) (waiting_got _ _ _ _ _ (take c.in-Bytes.n c.receive.new.buf) c.loop-n.invariant came undecided)
 
@@ -62,7 +64,9 @@ pub returns-then-quiets-eq-PATIENCE-clause-heard : goal.returns-then-quiets-eq-P
 returns-then-quiets-eq-PATIENCE-clause-heard g c =
     let w = c.loop-n.invariant in
     let e = c.in-Quiet.ensures in
-    heard_silence _ _ _ _ _ w (record { story = e.story; connect_faults = e.faults; cuts = e.cuts; quiets = e.quiets }) (c.if-quiets-eq-PATIENCE.true)
+    let seen = seen_by g.L.Link.story g.L.Link.connect_faults g.L.Link.cuts g.L.Link.quiets in
+    let came = came_receive (seen c.loop-n.link) (seen c.receive.new.self) c.receive.new.buf got.Quiet e.story e.faults e.cuts e.quiets in
+    heard_silence _ _ _ _ _ w came (c.if-quiets-eq-PATIENCE.true)
 
 pub loop-n-smaller : goal.loop-n-smaller
 loop-n-smaller g c = let few = waiting_few _ _ _ _ c.loop-n.invariant in omega arith
@@ -72,9 +76,18 @@ loop-n-preserved g c =
     let w = c.loop-n.invariant in
     let e = c.in-Quiet.ensures in
     let few = waiting_few _ _ _ _ w in
-    waiting_silence _ _ _ _ _ w (record { story = e.story; connect_faults = e.faults; cuts = e.cuts; quiets = e.quiets }) (let not : c.loop-n.quiets + 1 ≢ 300 = c.if-quiets-eq-PATIENCE.false in omega arith)
+    let seen = seen_by g.L.Link.story g.L.Link.connect_faults g.L.Link.cuts g.L.Link.quiets in
+    let came = came_receive (seen c.loop-n.link) (seen c.receive.new.self) c.receive.new.buf got.Quiet e.story e.faults e.cuts e.quiets in
+    waiting_silence _ _ _ _ _ w came (let not : c.loop-n.quiets + 1 ≢ 300 = c.if-quiets-eq-PATIENCE.false in omega arith)
 
 pub returns-in-Closed-clause-heard : goal.returns-in-Closed-clause-heard
 returns-in-Closed-clause-heard g c =
     let e = c.in-Closed.ensures in
-    heard_cut _ _ _ _ _ c.loop-n.invariant (record { story = e.story; connect_faults = e.faults; cuts = e.cuts; quiets = e.quiets })
+    let seen = seen_by g.L.Link.story g.L.Link.connect_faults g.L.Link.cuts g.L.Link.quiets in
+    heard_cut _ _ _ _ _ c.loop-n.invariant (came_receive (seen c.loop-n.link) (seen c.receive.new.self) c.receive.new.buf got.Closed e.story e.faults e.cuts e.quiets)
+
+pub returns-in-NoMemory-clause-heard : goal.returns-in-NoMemory-clause-heard
+returns-in-NoMemory-clause-heard g c =
+    let e = c.in-NoMemory.ensures in
+    let seen = seen_by g.L.Link.story g.L.Link.connect_faults g.L.Link.cuts g.L.Link.quiets in
+    heard_memory _ _ _ _ _ [] c.loop-n.invariant (came_receive (seen c.loop-n.link) (seen c.receive.new.self) c.receive.new.buf got.NoMemory e.story e.faults e.cuts e.quiets)

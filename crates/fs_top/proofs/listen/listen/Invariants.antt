@@ -1,5 +1,5 @@
 use Rattle.std.proofs.Common.{◌+◌, ◌-◌, ◌*◌, length}
-use Rattle.fs_top.specs.Came.{seen_by}
+use Rattle.smb_link.specs.Came.{seen_by}
 use Rattle.fs_top.proofs.Waiting.{Waiting}
 use Rattle.fs_top.proofs.listen.listen.Given as goal
 

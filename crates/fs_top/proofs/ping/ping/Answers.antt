@@ -1,10 +1,48 @@
-use Rattle.std.proofs.Common.{Ok, Err, ◌∙◌, subst}
-use Rattle.smb_link.specs.Story.{send_events}
+use Rattle.std.proofs.Common.{Ok, Err, [], ◌∷◌, ◌++◌, inl, inr, refl, ◌∙◌, subst}
+use Rattle.smb_link.specs.Story.{connect_events, send_events}
+use Rattle.smb_link.specs.declared.event.Event.TheVariants.{NotJoined}
 use Rattle.smb_link.specs.declared.faults.LinkFail.{LinkFail}
-use Rattle.fs_top.specs.Came.{seen_by, Came}
+use Rattle.smb_link.specs.Came.{seen_by, Came}
+use Rattle.fs_top.specs.Run.{opening}
 use Rattle.fs_top.proofs.Asked.{asked_heard, asked_cut}
-use Rattle.fs_top.proofs.CameLaws.{came_connect, came_send}
+use Rattle.smb_link.proofs.CameLaws.{came_then, came_connect, came_send}
 use Rattle.fs_top.proofs.ping.ping.Goals as goal
+
+pub returns-in-Err-Failed : goal.returns-in-Err-Failed
+returns-in-Err-Failed g c =
+    let seen = seen_by g.L.Link.story g.L.Link.connect_faults g.L.Link.cuts g.L.Link.quiets in
+    let stood = g.L.Link.stands c.args.link.now in
+    let stands = g.L.Link.stands c.connect.new.self in
+    let why = c.in-Err-Failed.field-0 in
+    let j = c.in-Err-Failed.ensures in
+    let join = came_connect (seen c.args.link.now) (seen c.connect.new.self) stood stands (Err why) j.story j.faults j.cuts j.quiets in
+    let failed = subst (λ (f : LinkFail). Came (connect_events stood stands (Err f)) (seen c.args.link.now) (seen c.connect.new.self)) c.in-Err-Failed.field-0-is join in
+    (opening stood ++ NotJoined ∷ [], failed, inr refl)
+
+pub returns-in-Err-NoMemory : goal.returns-in-Err-NoMemory
+returns-in-Err-NoMemory g c =
+    let seen = seen_by g.L.Link.story g.L.Link.connect_faults g.L.Link.cuts g.L.Link.quiets in
+    let stood = g.L.Link.stands c.args.link.now in
+    let stands = g.L.Link.stands c.connect.new.self in
+    let why = c.in-Err-NoMemory.field-0 in
+    let j = c.in-Err-NoMemory.ensures in
+    (connect_events stood stands (Err why), came_connect (seen c.args.link.now) (seen c.connect.new.self) stood stands (Err why) j.story j.faults j.cuts j.quiets, inl refl)
+
+pub returns-in-Err-NoMemory-send : goal.returns-in-Err-NoMemory-send
+returns-in-Err-NoMemory-send g c =
+    let seen = seen_by g.L.Link.story g.L.Link.connect_faults g.L.Link.cuts g.L.Link.quiets in
+    let stood = g.L.Link.stands c.args.link.now in
+    let stands = g.L.Link.stands c.connect.new.self in
+    let frame = c.as_slice.result.now in
+    let why = c.in-Err-NoMemory-send.field-0 in
+    let j = c.in-Ok-connect.ensures in
+    let s = c.in-Err-NoMemory-send.ensures in
+    let join = came_connect (seen c.args.link.now) (seen c.connect.new.self) stood stands (Ok tt) j.story j.faults j.cuts j.quiets in
+    let send = came_send (seen c.connect.new.self) (seen c.send.new.self) frame (Err why) s.story s.faults s.cuts s.quiets in (
+      connect_events stood stands (Ok tt) ++ send_events frame (Err why),
+      came_then (connect_events stood stands (Ok tt)) (send_events frame (Err why)) (seen c.args.link.now) (seen c.connect.new.self) (seen c.send.new.self) join send,
+      inl refl,
+    )
 
 pub returns-in-Err-Failed-send : goal.returns-in-Err-Failed-send
 returns-in-Err-Failed-send g c =

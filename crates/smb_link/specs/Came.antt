@@ -1,9 +1,9 @@
--- A link as contracts see it, and which events came at it.
-use Rattle.std.specs.Prelude.{◌≡◌, ℕ, Bool, true, false, List, [], ◌∷◌, Option}
+-- A link as contracts see it, and which events of the client came at it.
+use Rattle.std.specs.Prelude.{◌≡◌, ℕ, Bool, true, false, not, List, [], ◌∷◌, filter, Option}
 use Rattle.smb_link.specs.Count.{counted}
-use Rattle.smb_link.specs.Story.{told}
+use Rattle.smb_link.specs.Story.{told, is_of_share}
 use Rattle.smb_link.specs.declared.event.Event.{Event}
-use Rattle.smb_link.specs.declared.event.Event.TheVariants.{Sent, Got, Quiet, Joined, NotJoined, Cut}
+use Rattle.smb_link.specs.declared.event.Event.TheVariants as event
 
 -- the story of a link, where it tells one, and its counts
 pub record Seen : Type 0 where
@@ -17,37 +17,32 @@ seen_by story connect_faults cuts quiets link =
     record { story = story link; connect_faults = connect_faults link; cuts = cuts link; quiets = quiets link }
 
 abbrev pub is_refusal : Event → Bool
-is_refusal (Sent frame) = false
-is_refusal (Got bytes) = false
-is_refusal Quiet = false
-is_refusal Joined = false
-is_refusal NotJoined = true
-is_refusal Cut = false
+is_refusal event.NotJoined = true
+is_refusal e = false
 
 abbrev pub is_cut : Event → Bool
-is_cut (Sent frame) = false
-is_cut (Got bytes) = false
-is_cut Quiet = false
-is_cut Joined = false
-is_cut NotJoined = false
-is_cut Cut = true
+is_cut event.Cut = true
+is_cut e = false
 
 abbrev pub is_silence : Event → Bool
-is_silence (Sent frame) = false
-is_silence (Got bytes) = false
-is_silence Quiet = true
-is_silence Joined = false
-is_silence NotJoined = false
-is_silence Cut = false
+is_silence event.Quiet = true
+is_silence e = false
 
 -- a count after these events, of which such ones count
 abbrev pub counted_all : ℕ → (Event → Bool) → List Event → ℕ
 counted_all count such [] = count
 counted_all count such (event ∷ events) = counted_all (counted count (such event)) such events
 
--- between two moments these events came at a link: they are what its story gained, and what its counts counted
+-- the client's own events among these
+abbrev pub own : List Event → List Event
+own events = filter (λ e. not (is_of_share e)) events
+
+-- between two moments these events of the client came at a link: they are what its story gained beside the share's own events, and what
+-- its counts counted
 pub record Came (events : List Event) (old new : Seen) : Type 0 where
-  pub story : new.story ≡ told old.story events
+  pub gained : List Event
+  pub story : new.story ≡ told old.story gained
+  pub clients : own gained ≡ events
   pub connect_faults : new.connect_faults ≡ counted_all old.connect_faults is_refusal events
   pub cuts : new.cuts ≡ counted_all old.cuts is_cut events
   pub quiets : new.quiets ≡ counted_all old.quiets is_silence events

@@ -1,0 +1,12 @@
+-- The program of each call.
+use Rattle.std.specs.Prelude.{ℕ, List}
+use Rattle.fs_types.specs.declared.call.Call.{Call}
+use Rattle.fs_types.specs.declared.call.Call.TheVariants as call
+use Rattle.fs_types.specs.declared.options.Options.{Options}
+use Rattle.smb_link.specs.Program.{Program, Say, of_errno}
+use Rattle.smb_link.specs.Stat.{stat_program}
+
+-- a call under these options and with this seed; one that is not there yet answers EOPNOTSUPP
+abbrev pub program_of : Options → List ℕ → Call → Program
+program_of options seed (call.Stat path) = stat_program options path
+program_of options seed other = Say (of_errno 95)

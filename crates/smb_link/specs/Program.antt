@@ -1,0 +1,94 @@
+-- What a call asks of the share, one request after another, and what it answers in the end.
+use Rattle.std.specs.Prelude.{ℕ, ◌==◌, Bool, List, [], ◌∷◌, Option, Some, None, Result, Ok, Err, if◌then◌else◌, nat_lt, length, bit_and}
+use Rattle.smb_base.specs.declared.names.Status.{Status}
+use Rattle.smb_base.specs.ErrorTable.{error_number}
+use Rattle.smb_names.specs.declared.map.NameMap.{NameMap}
+use Rattle.smb_names.specs.declared.map.NameMap.TheVariants.{Sfm, Plain}
+use Rattle.smb_names.specs.declared.fault.NameFault.{NameFault}
+use Rattle.smb_names.specs.declared.fault.NameFault.TheVariants.{Reserved}
+use Rattle.smb_names.specs.Path.{components, path_of}
+use Rattle.share_spec.specs.declared.request.Rep.{Rep}
+use Rattle.fs_types.specs.declared.options.Options.{Options}
+use Rattle.fs_types.specs.declared.answer.Answer.{Answer}
+use Rattle.fs_types.specs.declared.answer.Answer.TheVariants as answer
+use Rattle.smb_link.specs.Locals.{Locals}
+
+-- the file that a request speaks of: the one that the call itself opened at its first, second, .. CREATE, counted from 0, or the one
+-- that its descriptor names
+pub data File : Type 0 where
+  Own : ℕ → File
+  Named : File
+
+-- a request of a call. A CREATE has a path on the share, an access, a disposition and options.
+pub data Wish : Type 0 where
+  Open : List ℕ → ℕ → ℕ → ℕ → Wish
+  Query : File → Wish
+  Close : File → Wish
+
+-- what the last NEGOTIATE reply said of the server
+pub record Facts : Type 0 where
+  pub capabilities : ℕ
+  pub max_transact : ℕ
+  pub max_read : ℕ
+  pub max_write : ℕ
+
+-- what a call looks at beside its replies, when it makes a request or answers
+pub record Known : Type 0 where
+  pub locals : Locals
+  pub facts : Facts
+
+-- what is left of a call: a request, and what comes after its reply; a look at what is known; or the answer. A reply is seen without
+-- its file id, lease and durable grant.
+pub data Program : Type 0 where
+  Ask : Wish → (Rep → Program) → Program
+  Look : (Known → Program) → Program
+  Say : Answer → Program
+
+-- a program up to its next request or its answer
+abbrev pub settled : Known → Program → Program
+settled known (Program.Ask wish rest) = Program.Ask wish rest
+settled known (Program.Look rest) = settled known (rest known)
+settled known (Program.Say answer) = Program.Say answer
+
+-- what is left of a program once its next request has this reply
+abbrev pub replied : Known → Program → Rep → Program
+replied known (Program.Ask wish rest) reply = rest reply
+replied known (Program.Look rest) reply = replied known (rest known) reply
+replied known (Program.Say answer) reply = Program.Say answer
+
+-- what is left once its first requests have these replies: the next request, or the answer
+abbrev pub next : Known → Program → List Rep → Program
+next known program [] = settled known program
+next known program (reply ∷ replies) = next known (replied known program reply) replies
+
+-- the answer for a status of the server: the error number that the table has for it; one that the table has none for is told
+abbrev pub of_number : ℕ → Status → Answer
+of_number number status =
+    if number == 121 then answer.Err (record { 0 = number }) (Some status) else answer.Err (record { 0 = number }) None
+
+abbrev pub of_refusal : Status → Answer
+of_refusal status = of_number (error_number status.0) status
+
+-- the answer of a call that is refused by the client itself
+abbrev pub of_errno : ℕ → Answer
+of_errno number = answer.Err (record { 0 = number }) None
+
+-- how names are written on the share
+abbrev pub map_of : Options → NameMap
+map_of options = if options.mapposix then Sfm else Plain
+
+-- a fault of a component: EILSEQ where it has a character that no name may have, ENAMETOOLONG where it is too long
+abbrev pub number_of_fault : NameFault → ℕ
+number_of_fault Reserved = 84
+number_of_fault fault = 36
+
+abbrev pub unless_refused : Result (List ℕ) NameFault → (List ℕ → Program) → Program
+unless_refused (Ok path) program = program path
+unless_refused (Err fault) program = Program.Say (of_errno (number_of_fault fault))
+
+-- a program over the path on the share; ENAMETOOLONG for one of more than 4,095 bytes, then the fault of the first component that
+-- has one
+abbrev pub at_path : Options → List ℕ → (List ℕ → Program) → Program
+at_path options path program =
+    if nat_lt 4095 (length path) then Program.Say (of_errno 36)
+    else unless_refused (path_of (map_of options) (components path)) program
