@@ -1,0 +1,19 @@
+mod Frames
+mod HonestStory
+mod BrokenStories
+pub mod PlainTree
+pub mod Steps
+pub mod Every
+pub mod Identity
+pub mod Carried
+pub mod SameLaws
+pub mod Acts
+pub mod Lookups
+pub mod Tooks
+pub mod ShareEvents
+pub mod ClientEvents
+pub mod Sending
+pub mod Getting
+pub mod Ending
+pub mod Moves
+pub mod Leading

@@ -1,0 +1,118 @@
+-- A share that grants no lease and no durable open does the same as the plain share.
+use Rattle.std.proofs.Common.{◌≡◌, ℕ, true, false, [], ◌∷◌, ◌+◌, refl, ap, ◌∙◌, None, Some, List, Option, Bool, not, if◌then◌else◌}
+use Rattle.std.specs.Prelude.{map}
+use Rattle.std.specs.List.{fold}
+use Rattle.share_spec.specs.declared.connection.Grant.{Grant}
+use Rattle.share_spec.specs.declared.opens.Open.{Open}
+use Rattle.share_spec.specs.declared.create.Wanted.{Wanted}
+use Rattle.share_spec.specs.declared.place.Found.{Found}
+use Rattle.share_spec.specs.declared.place.Place.{Place}
+use Rattle.share_spec.specs.declared.place.Place.TheVariants.{NoPath, Missing, There}
+use Rattle.share_spec.specs.declared.request.Who.{Who}
+use Rattle.share_spec.specs.declared.request.Req.{Req}
+use Rattle.share_spec.specs.declared.request.Req.TheVariants as req
+use Rattle.share_spec.specs.declared.request.Rep.{Rep}
+use Rattle.share_spec.specs.declared.share.Share.{Share}
+use Rattle.share_spec.specs.Names.{components, is_name}
+use Rattle.share_spec.specs.Place.{below, place_of, root}
+use Rattle.share_spec.specs.Create.{create_at, create_of, made, opened, open_with, with_open, overwrites, refusal_of_missing, refusal_of_there, is_disposition}
+use Rattle.share_spec.specs.Reply.{unless, refused}
+use Rattle.share_spec.specs.Built.{is_built}
+use Rattle.share_spec.specs.PlainShare.{plain_request}
+use Rattle.std.specs.List.{list_all}
+use Rattle.share_spec.specs.State.{emptied}
+use Rattle.share_spec.specs.Close.{open_of, close_open}
+use Rattle.share_spec.specs.Query.{query_open}
+use Rattle.share_spec.specs.Step.{step_of}
+use Rattle.fs_plain.specs.Related.{bare}
+
+-- what is done, without leases and a connection
+abbrev pub bare_of : Rep × Share → Rep × Share
+bare_of done = (done.0, bare done.1)
+
+below_bare : (s : Share) (at : Place) (name : List ℕ) → below (bare s) at name ≡ below s at name
+below_bare s NoPath name = refl
+below_bare s (Missing d before) name = refl
+below_bare s (There f) name = refl
+
+walk_bare : (s : Share) (at : Place) (names : List (List ℕ)) → fold (below (bare s)) at names ≡ fold (below s) at names
+walk_bare s at [] = refl
+walk_bare s at (name ∷ names) =
+    ap (λ (p : Place). fold (below (bare s)) p names) (below_bare s at name) ∙ walk_bare s (below s at name) names
+
+place_bare : (s : Share) (names : List (List ℕ)) → place_of (bare s) names ≡ place_of s names
+place_bare s names = walk_bare s root names
+
+unless_bare : (refusal : Option ℕ) (s : Share) (done : Rep × Share) → unless refusal (bare s) (bare_of done) ≡ bare_of (unless refusal s done)
+unless_bare None s done = refl
+unless_bare (Some status) s done = refl
+
+made_bare : (s : Share) (who : Who) (w : Wanted) (d : ℕ) (name : List ℕ) → made (bare s) who w d name ≡ bare_of (made s who w d name)
+made_bare s who w d name = refl
+
+-- the share, its node emptied where that is asked
+abbrev perhaps_emptied : Share → ℕ → Bool → Share
+perhaps_emptied s node t = if t then record s { nodes = map (emptied node) s.nodes } else s
+
+perhaps_emptied_bare : (s : Share) (node : ℕ) (t : Bool) → perhaps_emptied (bare s) node t ≡ bare (perhaps_emptied s node t)
+perhaps_emptied_bare s node true = refl
+perhaps_emptied_bare s node false = refl
+
+opened_bare : (s : Share) (who : Who) (w : Wanted) (f : Found) → opened (bare s) who w f ≡ bare_of (opened s who w f)
+opened_bare s who w f =
+    ap (λ (t : Share). ((opened s who w f).0, with_open (open_with (s.opens_made + 1) who w f.node f.entry) t))
+    (perhaps_emptied_bare s f.node (overwrites w.disposition))
+
+create_at_bare : (s : Share) (who : Who) (w : Wanted) (at : Place) → create_at (bare s) who w at ≡ bare_of (create_at s who w at)
+create_at_bare s who w NoPath = refl
+create_at_bare s who w (Missing d name) = unless_bare (refusal_of_missing s w d) s (made s who w d name)
+create_at_bare s who w (There f) =
+    ap (unless (refusal_of_there s w f) (bare s)) (opened_bare s who w f) ∙ unless_bare (refusal_of_there s w f) s (opened s who w f)
+
+create_bare : (s : Share) (who : Who) (path : List ℕ) (w : Wanted) → create_of (bare s) who path w ≡ bare_of (create_of s who path w)
+create_bare s who path w = by (is_disposition w.disposition) (list_all is_name (components path))
+  where
+    by : (t u : Bool)
+        → (if not t then refused 0xC000000D (bare s)
+        else if not u then refused 0xC0000033 (bare s) else create_at (bare s) who w (place_of (bare s) (components path)))
+        ≡ bare_of (if not t then refused 0xC000000D s
+        else if not u then refused 0xC0000033 s else create_at s who w (place_of s (components path)))
+    by false u = refl
+    by true false = refl
+    by true true =
+        ap (create_at (bare s) who w) (place_bare s (components path)) ∙ create_at_bare s who w (place_of s (components path))
+
+close_open_bare : (o : Option Open) (s : Share) → close_open o (bare s) ≡ bare_of (close_open o s)
+close_open_bare None s = refl
+close_open_bare (Some o) s = refl
+
+query_open_bare : (o : Option Open) (s : Share) → query_open o (bare s) ≡ bare_of (query_open o s)
+query_open_bare None s = refl
+query_open_bare (Some o) s = refl
+
+-- every request that the machine takes does the same, whatever was chosen
+pub step_bare : (choice choice' : Option Grant) (s : Share) (who : Who) (r : Req) → is_built r ≡ true
+    → step_of choice' (bare s) who (plain_request r) ≡ bare_of (step_of choice s who r)
+step_bare choice choice' s who (req.Create path access share disposition options attributes lease durable) built = create_bare s who path record {
+  access = access;
+  share = share;
+  disposition = disposition;
+  options = options;
+  attributes = attributes;
+}
+step_bare choice choice' s who (req.Close fid) built = close_open_bare (open_of s.opens who fid) s
+step_bare choice choice' s who (req.Query fid) built = query_open_bare (open_of s.opens who fid) s
+step_bare choice choice' s who (req.Flush a) built = refl
+step_bare choice choice' s who (req.Room a) built = refl
+step_bare choice choice' s who (req.Read a b c) built = refl
+step_bare choice choice' s who (req.Write a b c) built = refl
+step_bare choice choice' s who (req.Lock a b c d) built = refl
+step_bare choice choice' s who (req.Unlock a b c) built = refl
+step_bare choice choice' s who (req.List a b c) built = refl
+step_bare choice choice' s who (req.SetBasic a b) built = refl
+step_bare choice choice' s who (req.SetEnd a b) built = refl
+step_bare choice choice' s who (req.SetPending a b) built = refl
+step_bare choice choice' s who (req.Rename a b c) built = refl
+step_bare choice choice' s who (req.LinkTo a b c) built = refl
+step_bare choice choice' s who (req.Ack a b) built = refl
+step_bare choice choice' s who (req.Reclaim a b) built = refl

@@ -1,0 +1,239 @@
+-- What a request does to the numbers of opens.
+use Rattle.std.proofs.Common.{rules, ◌≡◌, ℕ, true, false, [], ◌∷◌, ◌++◌, ◌+◌, ◌≤◌, refl, inl, inr, None, Some, List, Option, Bool, ◌==◌, not, if◌then◌else◌}
+use Rattle.std.specs.Prelude.{map, ◌⊎◌}
+use Rattle.std.specs.List.{AllByRecursion, list_all}
+use Rattle.share_spec.specs.declared.connection.Grant.{Grant}
+use Rattle.share_spec.specs.declared.opens.Open.{Open}
+use Rattle.share_spec.specs.declared.create.Wanted.{Wanted}
+use Rattle.share_spec.specs.declared.place.Found.{Found}
+use Rattle.share_spec.specs.declared.place.Place.{Place}
+use Rattle.share_spec.specs.declared.place.Place.TheVariants.{NoPath, Missing, There}
+use Rattle.share_spec.specs.declared.request.Who.{Who}
+use Rattle.share_spec.specs.declared.request.Req.{Req}
+use Rattle.share_spec.specs.declared.request.Req.TheVariants as req
+use Rattle.share_spec.specs.declared.request.Rep.{Rep}
+use Rattle.share_spec.specs.declared.share.Share.{Share}
+use Rattle.share_spec.specs.Names.{components, is_name}
+use Rattle.share_spec.specs.State.{emptied}
+use Rattle.share_spec.specs.Reply.{unless, refused}
+use Rattle.share_spec.specs.Place.{place_of}
+use Rattle.share_spec.specs.Create.{create_at, create_of, made, opened, open_with, with_open, overwrites, refusal_of_missing, refusal_of_there, is_disposition}
+use Rattle.share_spec.specs.declared.lease.Lease.{Lease}
+use Rattle.share_spec.specs.declared.connection.Sent.{Sent}
+use Rattle.share_spec.specs.declared.connection.Owed.{Owed}
+use Rattle.share_spec.specs.Close.{open_of, close_open, closed, kept_leases}
+use Rattle.share_spec.specs.Query.{query_open}
+use Rattle.share_spec.specs.Step.{step_of}
+use Rattle.fs_plain.specs.Replay.{opened_number}
+use Rattle.fs_plain.specs.Related.{IsStanding, AreStanding}
+use Rattle.fs_plain.proofs.Every.{every-snoc, every-filter, every-more}
+
+-- what was done gave no open and made none, or gave the one that it made, which has the next number
+abbrev pub Counts : Share → Rep × Share → Type 0
+Counts s done =
+    ((opened_number done.0.body ≡ 0) × (done.1.opens_made ≡ s.opens_made))
+    ⊎ ((opened_number done.0.body ≡ s.opens_made + 1) × (done.1.opens_made ≡ s.opens_made + 1))
+
+unless_counts : (refusal : Option ℕ) (s : Share) (done : Rep × Share) → Counts s done → Counts s (unless refusal s done)
+unless_counts None s done counts = counts
+unless_counts (Some status) s done counts = inl (refl, refl)
+
+opened_counts : (s : Share) (who : Who) (w : Wanted) (f : Found) → Counts s (opened s who w f)
+opened_counts s who w f = inr (refl, by (overwrites w.disposition))
+  where
+    by : (t : Bool) → (if t then record s { nodes = map (emptied f.node) s.nodes } else s).opens_made + 1 ≡ s.opens_made + 1
+    by true = refl
+    by false = refl
+
+create_at_counts : (s : Share) (who : Who) (w : Wanted) (at : Place) → Counts s (create_at s who w at)
+create_at_counts s who w NoPath = inl (refl, refl)
+create_at_counts s who w (Missing d name) = unless_counts (refusal_of_missing s w d) s (made s who w d name) (inr (refl, refl))
+create_at_counts s who w (There f) = unless_counts (refusal_of_there s w f) s (opened s who w f) (opened_counts s who w f)
+
+create_counts : (s : Share) (who : Who) (path : List ℕ) (w : Wanted) → Counts s (create_of s who path w)
+create_counts s who path w = by (is_disposition w.disposition) (list_all is_name (components path))
+  where
+    by : (t u : Bool) → Counts s (if not t then refused 0xC000000D s else if not u then refused 0xC0000033 s else create_at s who w (place_of s (components path)))
+    by false u = inl (refl, refl)
+    by true false = inl (refl, refl)
+    by true true = create_at_counts s who w (place_of s (components path))
+
+close_counts : (o : Option Open) (s : Share) → Counts s (close_open o s)
+close_counts None s = inl (refl, refl)
+close_counts (Some o) s = inl (refl, refl)
+
+query_counts : (o : Option Open) (s : Share) → Counts s (query_open o s)
+query_counts None s = inl (refl, refl)
+query_counts (Some o) s = inl (refl, refl)
+
+pub step_counts : (choice : Option Grant) (s : Share) (who : Who) (r : Req) → Counts s (step_of choice s who r)
+step_counts choice s who (req.Create path access share disposition options attributes lease durable) = create_counts s who path record {
+  access = access;
+  share = share;
+  disposition = disposition;
+  options = options;
+  attributes = attributes;
+}
+step_counts choice s who (req.Close fid) = close_counts (open_of s.opens who fid) s
+step_counts choice s who (req.Query fid) = query_counts (open_of s.opens who fid) s
+step_counts choice s who (req.Flush a) = inl (refl, refl)
+step_counts choice s who (req.Room a) = inl (refl, refl)
+step_counts choice s who (req.Read a b c) = inl (refl, refl)
+step_counts choice s who (req.Write a b c) = inl (refl, refl)
+step_counts choice s who (req.Lock a b c d) = inl (refl, refl)
+step_counts choice s who (req.Unlock a b c) = inl (refl, refl)
+step_counts choice s who (req.List a b c) = inl (refl, refl)
+step_counts choice s who (req.SetBasic a b) = inl (refl, refl)
+step_counts choice s who (req.SetEnd a b) = inl (refl, refl)
+step_counts choice s who (req.SetPending a b) = inl (refl, refl)
+step_counts choice s who (req.Rename a b c) = inl (refl, refl)
+step_counts choice s who (req.LinkTo a b c) = inl (refl, refl)
+step_counts choice s who (req.Ack a b) = inl (refl, refl)
+step_counts choice s who (req.Reclaim a b) = inl (refl, refl)
+
+-- what a request leaves as it is: the connection
+pub record Connection : Type 0 where
+  pub connected : Bool
+  pub sent : List Sent
+  pub owed : List Owed
+  pub held : List ℕ
+  pub grants : List (Option Grant)
+
+abbrev pub connection : Share → Connection
+connection s = record { connected = s.connected; sent = s.sent; owed = s.owed; held = s.held; grants = s.grants }
+
+-- it leaves the connection alone, and a share without leases stays one
+abbrev pub Leaves : Share → Rep × Share → Type 0
+Leaves s done = (connection done.1 ≡ connection s) × (s.leases ≡ [] → done.1.leases ≡ [])
+
+kept_none : (opens : List Open) (leases : List Lease) → leases ≡ [] → kept_leases opens leases ≡ []
+kept_none opens leases none = rw none refl
+
+unless_leaves : (refusal : Option ℕ) (s : Share) (done : Rep × Share) → Leaves s done → Leaves s (unless refusal s done)
+unless_leaves None s done holds = holds
+unless_leaves (Some status) s done holds = (refl, λ none. none)
+
+opened_leaves : (s : Share) (who : Who) (w : Wanted) (f : Found) → Leaves s (opened s who w f)
+opened_leaves s who w f = by (overwrites w.disposition)
+  where
+    by : (t : Bool)
+        → (connection (with_open (open_with (s.opens_made + 1) who w f.node f.entry) (if t then record s { nodes = map (emptied f.node) s.nodes } else s)) ≡ connection s)
+        × (s.leases ≡ [] → (if t then record s { nodes = map (emptied f.node) s.nodes } else s).leases ≡ [])
+    by true = (refl, λ none. none)
+    by false = (refl, λ none. none)
+
+create_at_leaves : (s : Share) (who : Who) (w : Wanted) (at : Place) → Leaves s (create_at s who w at)
+create_at_leaves s who w NoPath = (refl, λ none. none)
+create_at_leaves s who w (Missing d name) = unless_leaves (refusal_of_missing s w d) s (made s who w d name) (refl, λ none. none)
+create_at_leaves s who w (There f) = unless_leaves (refusal_of_there s w f) s (opened s who w f) (opened_leaves s who w f)
+
+create_leaves : (s : Share) (who : Who) (path : List ℕ) (w : Wanted) → Leaves s (create_of s who path w)
+create_leaves s who path w = by (is_disposition w.disposition) (list_all is_name (components path))
+  where
+    by : (t u : Bool) → Leaves s (if not t then refused 0xC000000D s else if not u then refused 0xC0000033 s else create_at s who w (place_of s (components path)))
+    by false u = (refl, λ none. none)
+    by true false = (refl, λ none. none)
+    by true true = create_at_leaves s who w (place_of s (components path))
+
+close_leaves : (o : Option Open) (s : Share) → Leaves s (close_open o s)
+close_leaves None s = (refl, λ none. none)
+close_leaves (Some o) s = (refl, kept_none (closed o s).opens s.leases)
+
+query_leaves : (o : Option Open) (s : Share) → Leaves s (query_open o s)
+query_leaves None s = (refl, λ none. none)
+query_leaves (Some o) s = (refl, λ none. none)
+
+pub step_leaves : (choice : Option Grant) (s : Share) (who : Who) (r : Req) → Leaves s (step_of choice s who r)
+step_leaves choice s who (req.Create path access share disposition options attributes lease durable) = create_leaves s who path record {
+  access = access;
+  share = share;
+  disposition = disposition;
+  options = options;
+  attributes = attributes;
+}
+step_leaves choice s who (req.Close fid) = close_leaves (open_of s.opens who fid) s
+step_leaves choice s who (req.Query fid) = query_leaves (open_of s.opens who fid) s
+step_leaves choice s who (req.Flush a) = (refl, λ none. none)
+step_leaves choice s who (req.Room a) = (refl, λ none. none)
+step_leaves choice s who (req.Read a b c) = (refl, λ none. none)
+step_leaves choice s who (req.Write a b c) = (refl, λ none. none)
+step_leaves choice s who (req.Lock a b c d) = (refl, λ none. none)
+step_leaves choice s who (req.Unlock a b c) = (refl, λ none. none)
+step_leaves choice s who (req.List a b c) = (refl, λ none. none)
+step_leaves choice s who (req.SetBasic a b) = (refl, λ none. none)
+step_leaves choice s who (req.SetEnd a b) = (refl, λ none. none)
+step_leaves choice s who (req.SetPending a b) = (refl, λ none. none)
+step_leaves choice s who (req.Rename a b c) = (refl, λ none. none)
+step_leaves choice s who (req.LinkTo a b c) = (refl, λ none. none)
+step_leaves choice s who (req.Ack a b) = (refl, λ none. none)
+step_leaves choice s who (req.Reclaim a b) = (refl, λ none. none)
+
+abbrev pub KeepsNumbers : Share → Rep × Share → Type 0
+KeepsNumbers s done = AreStanding s → AreStanding done.1
+
+next_too : (n m : ℕ) → n ≤ m → n ≤ m + 1
+next_too n m below = search rules
+
+still_numbered : (m : ℕ) (opens : List Open) → AllByRecursion (IsStanding m) opens → AllByRecursion (IsStanding (m + 1)) opens
+still_numbered m opens all = every-more (IsStanding m) (IsStanding (m + 1)) (λ o is. (is.0, next_too o.number m is.1, is.2)) opens all
+
+one_more_numbered : (m : ℕ) (opens : List Open) (o : Open) → o.number ≡ m + 1 → o.connected ≡ true → AllByRecursion (IsStanding m) opens → AllByRecursion (IsStanding (m + 1)) (opens ++ o ∷ [])
+one_more_numbered m opens o is stands all =
+    every-snoc (IsStanding (m + 1)) opens o (still_numbered m opens all) (rw is (search rules), rw is (search rules), stands)
+
+unless_numbers : (refusal : Option ℕ) (s : Share) (done : Rep × Share) → KeepsNumbers s done → KeepsNumbers s (unless refusal s done)
+unless_numbers None s done holds = holds
+unless_numbers (Some status) s done holds = (λ all. all)
+
+opened_numbers : (s : Share) (who : Who) (w : Wanted) (f : Found) → KeepsNumbers s (opened s who w f)
+opened_numbers s who w f = by (overwrites w.disposition)
+  where
+    by : (t : Bool) → AreStanding s → AreStanding (with_open (open_with (s.opens_made + 1) who w f.node f.entry) (if t then record s { nodes = map (emptied f.node) s.nodes } else s))
+    by true all = one_more_numbered s.opens_made s.opens (open_with (s.opens_made + 1) who w f.node f.entry) refl refl all
+    by false all = one_more_numbered s.opens_made s.opens (open_with (s.opens_made + 1) who w f.node f.entry) refl refl all
+
+create_at_numbers : (s : Share) (who : Who) (w : Wanted) (at : Place) → KeepsNumbers s (create_at s who w at)
+create_at_numbers s who w NoPath = (λ all. all)
+create_at_numbers s who w (Missing d name) = unless_numbers (refusal_of_missing s w d) s (made s who w d name) (λ all. one_more_numbered s.opens_made s.opens (open_with (s.opens_made + 1) who w (s.nodes_made + 1) (s.entries_made + 1)) refl refl all)
+create_at_numbers s who w (There f) = unless_numbers (refusal_of_there s w f) s (opened s who w f) (opened_numbers s who w f)
+
+create_numbers : (s : Share) (who : Who) (path : List ℕ) (w : Wanted) → KeepsNumbers s (create_of s who path w)
+create_numbers s who path w = by (is_disposition w.disposition) (list_all is_name (components path))
+  where
+    by : (t u : Bool) → KeepsNumbers s (if not t then refused 0xC000000D s else if not u then refused 0xC0000033 s else create_at s who w (place_of s (components path)))
+    by false u = (λ all. all)
+    by true false = (λ all. all)
+    by true true = create_at_numbers s who w (place_of s (components path))
+
+close_numbers : (o : Option Open) (s : Share) → KeepsNumbers s (close_open o s)
+close_numbers None s = (λ all. all)
+close_numbers (Some o) s = (λ all. every-filter (IsStanding s.opens_made) (λ q. not (q.number == o.number)) s.opens all)
+
+query_numbers : (o : Option Open) (s : Share) → KeepsNumbers s (query_open o s)
+query_numbers None s = (λ all. all)
+query_numbers (Some o) s = (λ all. all)
+
+pub step_numbers : (choice : Option Grant) (s : Share) (who : Who) (r : Req) → KeepsNumbers s (step_of choice s who r)
+step_numbers choice s who (req.Create path access share disposition options attributes lease durable) = create_numbers s who path record {
+  access = access;
+  share = share;
+  disposition = disposition;
+  options = options;
+  attributes = attributes;
+}
+step_numbers choice s who (req.Close fid) = close_numbers (open_of s.opens who fid) s
+step_numbers choice s who (req.Query fid) = query_numbers (open_of s.opens who fid) s
+step_numbers choice s who (req.Flush a) = (λ all. all)
+step_numbers choice s who (req.Room a) = (λ all. all)
+step_numbers choice s who (req.Read a b c) = (λ all. all)
+step_numbers choice s who (req.Write a b c) = (λ all. all)
+step_numbers choice s who (req.Lock a b c d) = (λ all. all)
+step_numbers choice s who (req.Unlock a b c) = (λ all. all)
+step_numbers choice s who (req.List a b c) = (λ all. all)
+step_numbers choice s who (req.SetBasic a b) = (λ all. all)
+step_numbers choice s who (req.SetEnd a b) = (λ all. all)
+step_numbers choice s who (req.SetPending a b) = (λ all. all)
+step_numbers choice s who (req.Rename a b c) = (λ all. all)
+step_numbers choice s who (req.LinkTo a b c) = (λ all. all)
+step_numbers choice s who (req.Ack a b) = (λ all. all)
+step_numbers choice s who (req.Reclaim a b) = (λ all. all)

@@ -1,0 +1,17 @@
+pub mod Wire
+pub mod Requests
+pub mod Replies
+pub mod World
+pub mod Ahead
+pub mod Honest
+pub mod Same
+pub mod Replay
+pub mod Taken
+pub mod Answered
+pub mod Differences
+pub mod CleanEnd
+pub mod Prompt
+pub mod Thrift
+pub mod View
+pub mod Related
+pub mod Moves
