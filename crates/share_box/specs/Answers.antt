@@ -1,0 +1,71 @@
+-- Replies, each as a frame of its own.
+use Rattle.std.specs.Prelude.{ℕ, ◌==◌, Bool, ◌&&◌, nat_le, if◌then◌else◌, List, [], ◌∷◌, length, take, bytes_eq, codes, Result, Ok, Err}
+use Rattle.smb_le.specs.Numbers.{number_at}
+use Rattle.smb_head.specs.declared.head.Head.{Head}
+use Rattle.smb_head.specs.declared.head.HeadFault.{HeadFault}
+use Rattle.smb_head.specs.declared.head.Route.{Route}
+use Rattle.smb_head.specs.declared.head.Route.TheVariants.{Sync, Async}
+use Rattle.smb_head.specs.Header.{head_of}
+use Rattle.smb_head.specs.Stream.{frame}
+use Rattle.smb_chain.specs.Chain.{chain, message as message_of}
+use Rattle.share_box.specs.declared.bodies.Said.{Said}
+use Rattle.share_box.specs.declared.bodies.Said.TheVariants as said
+use Rattle.fs_plain.specs.Wire.{has_body, lies, bytes_at}
+use Rattle.share_box.specs.Bodies.{body_of, status_of}
+
+-- a token is NTLM's message of type 1 (MS-NLMP 2.2.1.1)
+abbrev pub is_first_message : List ℕ → Bool
+is_first_message token =
+    nat_le 12 (length token) && bytes_eq (take 8 token) (codes "NTLMSSP\0") && number_at 4 8 token == 1
+
+-- the token of a SESSION_SETUP request
+abbrev pub token_in : List ℕ → List ℕ
+token_in message = bytes_at (number_at 2 76 message) (number_at 2 78 message) message
+
+-- the first message of a session is answered by a challenge
+unfoldable pub said_session : List ℕ → Said
+said_session message =
+    if has_body 25 message && lies 25 (number_at 2 76 message) (number_at 2 78 message) message && is_first_message (token_in message)
+    then said.Challenge else said.Session
+
+-- what the reply says to a request that changes nothing on the share
+abbrev pub said_aside : ℕ → List ℕ → Said
+said_aside command message =
+    if command == 0 then said.Negotiated
+    else if command == 1 then said_session message
+    else if command == 3 then said.Tree
+    else said.Done
+
+-- the session of a reply: the one that it makes, or that of the request
+abbrev pub session_of : Head → ℕ
+session_of head = if head.command == 1 then 1 else head.session
+
+abbrev pub tree_in : Route → ℕ
+tree_in (Sync tree) = tree
+tree_in (Async id) = 0
+
+-- its tree: the one that it connects, or that of the request
+abbrev pub tree_of : Head → ℕ
+tree_of head = if head.command == 3 then 1 else tree_in head.route
+
+-- its header
+abbrev pub reply_head : Head → ℕ → Said → Head
+reply_head head credits what = record {
+  charge = head.charge;
+  status = status_of what;
+  command = head.command;
+  credits = credits;
+  flags = record { 0 = 1 };
+  next = 0;
+  mid = head.mid;
+  route = Sync (tree_of head);
+  session = session_of head;
+}
+
+abbrev pub reply_under : Result Head HeadFault → ℕ → Said → List ℕ
+reply_under (Err fault) credits what = []
+reply_under (Ok head) credits what = frame (chain (message_of (reply_head head credits what) (body_of what) ∷ []))
+
+-- the frame of the reply to a message, which has a header
+unfoldable pub reply_of : ℕ → List ℕ → Said → List ℕ
+reply_of credits message what = reply_under (head_of message) credits what

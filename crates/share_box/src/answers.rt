@@ -1,0 +1,116 @@
+//! Replies, each as a frame of its own.
+
+ghost use Rattle.std.specs.Prelude.{◌≡◌, IfOk};
+ghost use Rattle.share_box.specs.Answers.{is_first_message, said_session, said_aside, session_of, tree_of, reply_head, reply_of};
+
+use crate::bodies::{Said, put_body, status_of};
+use crate::requests::{NEGOTIATE, SESSION_SETUP, TREE_CONNECT};
+use smb_base::{Bytes, NoMemory};
+use smb_body_a::read_session_setup_request;
+use smb_chain::ChainBuilder;
+use smb_head::{Head, Route, read_head};
+use smb_le::{HeadFlags, get_u32};
+use std::alloc::Global;
+
+/// The id of the session (MS-SMB2 2.2.1.2).
+const SESSION: u64 = 1;
+
+/// The id of the tree.
+const TREE: u32 = 1;
+
+// What the reply says to a request that changes nothing on the share, by its command.
+pub(crate) fn said_aside(command: u16, message: &[u8]) -> Said
+    ensures { result ≡ said_aside command message.now }
+{
+    match command {
+        NEGOTIATE => Said::Negotiated,
+        SESSION_SETUP => said_session(message),
+        TREE_CONNECT => Said::Tree,
+        _ => Said::Done,
+    }
+}
+
+// A session is made by its second message: its first one is answered by a challenge.
+#[tactic(auto, unfolding(crate::specs::Answers::said_session))]
+fn said_session(message: &[u8]) -> Said
+    ensures { result ≡ said_session message.now }
+{
+    match read_session_setup_request(message) {
+        Ok(request) => {
+            if is_first_message(request.buffer) {
+                Said::Challenge
+            } else {
+                Said::Session
+            }
+        }
+        Err(_) => Said::Session,
+    }
+}
+
+// A token that is NTLM's message of type 1 (MS-NLMP 2.2.1.1).
+fn is_first_message(token: &[u8]) -> bool
+    ensures { result ≡ is_first_message token.now }
+{
+    12 <= token.len() && &token[..8] == b"NTLMSSP\0".as_slice() && get_u32(token, 8) == 1
+}
+
+// The session of a reply: that of the request, or the one that it makes.
+fn session_of(head: &Head) -> u64
+    ensures { result ≡ session_of head.now }
+{
+    if head.command == SESSION_SETUP {
+        SESSION
+    } else {
+        head.session
+    }
+}
+
+// The tree of a reply: that of the request, or the one that it connects.
+fn tree_of(head: &Head) -> u32
+    ensures { result ≡ tree_of head.now }
+{
+    if head.command == TREE_CONNECT {
+        return TREE;
+    }
+    match head.route {
+        Route::Sync(tree) => tree,
+        Route::Async(_) => 0,
+    }
+}
+
+// The header of a reply.
+fn reply_head(head: &Head, credits: u16, said: &Said) -> Head
+    ensures { result ≡ reply_head head.now credits said.now }
+{
+    Head {
+        charge: head.charge,
+        status: status_of(said),
+        command: head.command,
+        credits,
+        flags: HeadFlags::REPLY,
+        next: 0,
+        mid: head.mid,
+        route: Route::Sync(tree_of(head)),
+        session: session_of(head),
+    }
+}
+
+// The reply to a message, as a frame; no byte where the message has no header.
+#[tactic(auto, unfolding(crate::specs::Answers::reply_of, smb_chain::specs::Chain::chain))]
+pub(crate) fn reply(
+    alloc: Global,
+    credits: u16,
+    message: &[u8],
+    said: &Said,
+) -> Result<Bytes, NoMemory>
+    ensures { IfOk result (λ f. f ≡ reply_of credits message.now said.now) }
+{
+    let Ok(head) = read_head(message) else {
+        return Ok(Bytes::new(alloc));
+    };
+    let mut body = Vec::new(alloc);
+    put_body(alloc, &mut body, said)?;
+    let mut chain = ChainBuilder::new(alloc);
+    chain.add(&reply_head(&head, credits, said), &body)?;
+    chain.finish()
+}

@@ -1,0 +1,299 @@
+//! A link with a share behind it.
+
+ghost use Rattle.std.specs.Prelude.{◌≡◌, ◌≤◌, ◌<◌, ◌&&◌, ◌||◌, [], true, false, not, Some, IfOk, OnOk, OnErr, IsTrue, length};
+ghost use Rattle.smb_link.specs.declared.faults.Got.TheVariants as got;
+ghost use Rattle.smb_link.specs.Count.{counted};
+ghost use Rattle.smb_link.specs.Story.{is_failed, connect_cuts, StandsAfterConnect, Gains, GainsByConnect, send_events, receive_events, mark_events, is_closed, is_quiet, IfBytes};
+ghost use Rattle.share_box.specs.Calls.{fresh_box, turns_in, ended, marked, Connects, Sends, Gives, Receives, is_want, is_want_of_bytes, as_link, as_got, Goes, GoesOn, GoesToConnect, GoesToJoin, Tries, Takes, left};
+ghost use Rattle.share_box.specs.Turns.{is_possible, is_cut};
+
+use crate::schedule::{Schedule, Turn};
+use crate::state::{State, accept, end, give, join, lose, note, refuse, wait};
+use crate::turns::{do_turn, next_turn, turns_at_connect};
+use crate::waiting::{Coming, Waiting};
+use share_spec::Share;
+use smb_base::NoMemory;
+use smb_link::{EventList, Got, Link, LinkFail, Mark};
+use std::alloc::Global;
+use std::marker::Model;
+
+/// A link in memory, behind which a share takes turns. It tells its story.
+///
+/// Once a call answered `NoMemory`, each later call answers so and changes nothing.
+#[derive(Drop)]
+pub struct BoxLink {
+    alloc: Global,
+    state: State,
+}
+
+impl Model for BoxLink {
+    ghost use Rattle.share_box.specs.declared.state.State.{State};
+
+    ghost Value = { State };
+
+    ghost view = { λ b. b.state };
+}
+
+impl BoxLink {
+    /// A link to a share that has the root alone, with room for so many bytes; with `fold`, names are equal that differ in `a` to `z`
+    /// against `A` to `Z` alone. Each reply grants these credits. No connection stands yet. It fails only for want of memory.
+    pub fn new(
+        alloc: Global,
+        room: u64,
+        fold: bool,
+        credits: u16,
+        schedule: Schedule,
+    ) -> Result<BoxLink, NoMemory>
+        ensures { IfOk result (λ b. b ≡ fresh_box room fold credits (turns_in schedule)) }
+    {
+        let Schedule::List(turns) = schedule;
+        let share = Share::new(alloc, room, fold)?;
+        Ok(BoxLink {
+            alloc,
+            state: State {
+                share,
+                waiting: Waiting::new(alloc),
+                turns: Coming::of(turns),
+                credits,
+                story: EventList::new(alloc),
+                dead: false,
+                connect_faults: 0,
+                cuts: 0,
+                quiets: 0,
+            },
+        })
+    }
+
+    /// Lends the story so far.
+    pub fn story(&self) -> &EventList
+        ensures { result.now ≡ self.now.story }
+    {
+        &self.state.story
+    }
+}
+
+// Ends the connection that stands.
+fn leave(alloc: Global, b: &mut State) -> Result<(), NoMemory>
+    ensures ok { OnOk result (b.new ≡ left b.old) }
+    ensures err { OnErr result (GoesOn b.old b.new) }
+{
+    if b.share.connected {
+        return end(alloc, b);
+    }
+    Ok(())
+}
+
+// Takes the turns of a connect, and then joins or is refused.
+fn try_join(alloc: Global, b: &mut State) -> Result<bool, NoMemory>
+    requires { b.old.share.connected ≡ false }
+    ensures does { Tries b.old b.new (as_link result) }
+    ensures goes { GoesToJoin (as_link result) b.old b.new }
+{
+    if turns_at_connect(alloc, b)? {
+        refuse(b)?;
+        return Ok(false);
+    }
+    join(alloc, b)?;
+    Ok(true)
+}
+
+// A connect, while memory lasts.
+fn connects(alloc: Global, b: &mut State) -> Result<bool, NoMemory>
+    ensures does { Connects b.old b.new (as_link result) }
+    ensures goes { GoesToConnect (as_link result) b.old b.new }
+{
+    match leave(alloc, b) {
+        Ok(()) => try_join(alloc, b),
+        Err(NoMemory) => Err(NoMemory),
+    }
+}
+
+// A send, while memory lasts.
+fn sends(alloc: Global, b: &mut State, frame: &[u8]) -> Result<bool, NoMemory>
+    ensures does { Sends frame.now b.old b.new (as_link result) }
+    ensures goes { Goes (send_events frame.now (as_link result)) (is_failed (as_link result)) false b.old b.new }
+{
+    if b.share.connected {
+        accept(alloc, b, frame)?;
+        return Ok(true);
+    }
+    lose(alloc, b, frame)?;
+    Ok(false)
+}
+
+// Gives bytes, where some wait, or else waits in vain.
+fn gives(alloc: Global, b: &mut State, buf: &mut [u8]) -> Result<Got, NoMemory>
+    requires { 0 < length buf.old }
+    ensures plain { IfOk result (λ g. is_want_of_bytes g ≡ false) }
+    ensures does { Gives (length buf.old) buf.new b.old b.new (as_got result) }
+    ensures goes { Goes (receive_events buf.new (as_got result)) (is_closed (as_got result)) (is_quiet (as_got result)) b.old b.new }
+{
+    if b.waiting.is_empty() {
+        wait(b)?;
+        return Ok(Got::Quiet);
+    }
+    Ok(Got::Bytes(give(alloc, b, buf)?))
+}
+
+// The end of a connection that a receive finds.
+fn closes(alloc: Global, b: &mut State) -> Result<Got, NoMemory>
+    ensures closed { IfOk result (λ g. g ≡ got.Closed) }
+    ensures ok { OnOk result (b.new ≡ ended [] b.old) }
+    ensures err { OnErr result (GoesOn b.old b.new) }
+{
+    end(alloc, b)?;
+    Ok(Got::Closed)
+}
+
+// A receive that takes this turn.
+fn takes(alloc: Global, b: &mut State, turn: Turn, buf: &mut [u8]) -> Result<Got, NoMemory>
+    requires room { 0 < length buf.old }
+    requires possible { is_possible b.old.share turn ≡ true }
+    ensures plain { IfOk result (λ g. is_want_of_bytes g ≡ false) }
+    ensures does { Takes turn (length buf.old) buf.new b.old b.new (as_got result) }
+    ensures goes { Goes (receive_events buf.new (as_got result)) (is_closed (as_got result)) (is_quiet (as_got result)) b.old b.new }
+{
+    if is_cut(&turn) {
+        return closes(alloc, b);
+    }
+    do_turn(alloc, b, turn)?;
+    gives(alloc, b, buf)
+}
+
+fn is_cut(turn: &Turn) -> bool
+    ensures { result ≡ is_cut turn.now }
+{
+    matches!(turn, Turn::Cut)
+}
+
+// A receive where a connection stands.
+fn reads(alloc: Global, b: &mut State, buf: &mut [u8]) -> Result<Got, NoMemory>
+    requires room { 0 < length buf.old }
+    requires stands { b.old.share.connected ≡ true }
+    ensures plain { IfOk result (λ g. is_want_of_bytes g ≡ false) }
+    ensures does { Receives (length buf.old) buf.new b.old b.new (as_got result) }
+    ensures goes { Goes (receive_events buf.new (as_got result)) (is_closed (as_got result)) (is_quiet (as_got result)) b.old b.new }
+{
+    if !b.waiting.is_empty() {
+        return gives(alloc, b, buf);
+    }
+    let turn = next_turn(alloc, b)?;
+    takes(alloc, b, turn, buf)
+}
+
+// A receive, while memory lasts.
+fn receives(alloc: Global, b: &mut State, buf: &mut [u8]) -> Result<Got, NoMemory>
+    requires { 0 < length buf.old }
+    ensures plain { IfOk result (λ g. is_want_of_bytes g ≡ false) }
+    ensures does { Receives (length buf.old) buf.new b.old b.new (as_got result) }
+    ensures goes { Goes (receive_events buf.new (as_got result)) (is_closed (as_got result)) (is_quiet (as_got result)) b.old b.new }
+{
+    if b.share.connected {
+        return reads(alloc, b, buf);
+    }
+    closes(alloc, b)
+}
+
+impl Link for BoxLink {
+    ghost story = { λ b. Some b.story };
+
+    ghost stands = { λ b. b.share.connected };
+
+    ghost connect_faults = { λ b. b.connect_faults };
+
+    ghost cuts = { λ b. b.cuts };
+
+    ghost quiets = { λ b. b.quiets };
+
+    fn connect(&mut self, _host: &str, _port: u16) -> Result<(), LinkFail>
+        ensures story { GainsByConnect self.old.share.connected self.new.share.connected result (Some self.old.story) (Some self.new.story) }
+        ensures stands { StandsAfterConnect self.old.share.connected self.new.share.connected result }
+        ensures faults { self.new.connect_faults ≡ counted self.old.connect_faults (is_failed result) }
+        ensures cuts { self.new.cuts ≡ counted self.old.cuts (connect_cuts self.old.share.connected self.new.share.connected result) }
+        ensures quiets { self.new.quiets ≡ self.old.quiets }
+        ensures does { self.old.dead ≡ false → Connects self.old self.new result }
+        ensures dies { self.new.dead ≡ (self.old.dead || is_want result) }
+        ensures dead { self.old.dead ≡ true → (is_want result ≡ true) × (self.new ≡ self.old) }
+    {
+        if self.state.dead {
+            return Err(LinkFail::NoMemory);
+        }
+        match connects(self.alloc, &mut self.state) {
+            Ok(true) => Ok(()),
+            Ok(false) => Err(LinkFail::Failed),
+            Err(NoMemory) => {
+                self.state.dead = true;
+                Err(LinkFail::NoMemory)
+            }
+        }
+    }
+
+    fn send(&mut self, frame: &[u8]) -> Result<(), LinkFail>
+        ensures story { Gains (send_events frame.now result) (Some self.old.story) (Some self.new.story) }
+        ensures standing { OnOk result (IsTrue self.old.share.connected) }
+        ensures stands { self.new.share.connected ≡ (self.old.share.connected && not (is_failed result)) }
+        ensures faults { self.new.connect_faults ≡ self.old.connect_faults }
+        ensures cuts { self.new.cuts ≡ counted self.old.cuts (is_failed result) }
+        ensures quiets { self.new.quiets ≡ self.old.quiets }
+        ensures does { self.old.dead ≡ false → Sends frame.now self.old self.new result }
+        ensures dies { self.new.dead ≡ (self.old.dead || is_want result) }
+        ensures dead { self.old.dead ≡ true → (is_want result ≡ true) × (self.new ≡ self.old) }
+    {
+        if self.state.dead {
+            return Err(LinkFail::NoMemory);
+        }
+        match sends(self.alloc, &mut self.state, frame) {
+            Ok(true) => Ok(()),
+            Ok(false) => Err(LinkFail::Failed),
+            Err(NoMemory) => {
+                self.state.dead = true;
+                Err(LinkFail::NoMemory)
+            }
+        }
+    }
+
+    fn receive(&mut self, buf: &mut [u8]) -> Got
+        requires { 0 < length buf.old }
+        ensures bytes { IfBytes result (λ n. (1 ≤ n) × (n ≤ length buf.old) × IsTrue self.old.share.connected) }
+        ensures story { Gains (receive_events buf.new result) (Some self.old.story) (Some self.new.story) }
+        ensures stands { self.new.share.connected ≡ (self.old.share.connected && not (is_closed result)) }
+        ensures faults { self.new.connect_faults ≡ self.old.connect_faults }
+        ensures cuts { self.new.cuts ≡ counted self.old.cuts (is_closed result) }
+        ensures quiets { self.new.quiets ≡ counted self.old.quiets (is_quiet result) }
+        ensures does { self.old.dead ≡ false → Receives (length buf.old) buf.new self.old self.new result }
+        ensures dies { self.new.dead ≡ (self.old.dead || is_want_of_bytes result) }
+        ensures dead { self.old.dead ≡ true → (result ≡ got.NoMemory) × (self.new ≡ self.old) }
+    {
+        if self.state.dead {
+            return Got::NoMemory;
+        }
+        match receives(self.alloc, &mut self.state, buf) {
+            Ok(got) => got,
+            Err(NoMemory) => {
+                self.state.dead = true;
+                Got::NoMemory
+            }
+        }
+    }
+
+    fn mark(&mut self, mark: &Mark) -> Result<(), NoMemory>
+        ensures story { Gains (mark_events mark.now result) (Some self.old.story) (Some self.new.story) }
+        ensures stands { self.new.share.connected ≡ self.old.share.connected }
+        ensures faults { self.new.connect_faults ≡ self.old.connect_faults }
+        ensures cuts { self.new.cuts ≡ self.old.cuts }
+        ensures quiets { self.new.quiets ≡ self.old.quiets }
+        ensures does { OnOk result ((self.old.dead ≡ false) × (self.new ≡ marked mark.now self.old)) }
+        ensures err { OnErr result (self.new ≡ record self.old { dead = true }) }
+    {
+        if self.state.dead {
+            return Err(NoMemory);
+        }
+        match note(self.alloc, &mut self.state, mark) {
+            Ok(()) => Ok(()),
+            Err(NoMemory) => {
+                self.state.dead = true;
+                Err(NoMemory)
+            }
+        }
+    }
+}

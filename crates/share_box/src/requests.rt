@@ -1,0 +1,276 @@
+//! What a message asks for.
+
+ghost use Rattle.std.specs.Prelude.{◌≡◌, ◌<◌, ◌≤◌, ◌+◌, ◌*◌, ◌∷◌, ◌&&◌, [], nat_le, true, false, None, Some, IfOk, IfSome, MatchOption, option_map, if◌then◌else◌, length, drop};
+ghost use Rattle.smb_le.specs.Numbers.{number_at};
+ghost use Rattle.smb_body_b.specs.Contexts.{read_of};
+ghost use Rattle.share_spec.specs.State.{has};
+ghost use Rattle.fs_plain.specs.Wire.{has_body, lies, units_in};
+ghost use Rattle.fs_plain.specs.Requests.{asked, is_aside, is_create, create_asked, close_asked, query_asked, by_command, Asked as wire};
+ghost use Rattle.share_box.specs.Asked.{as_asked, is_taken, IsCreateIn, is_plain, are_plain};
+
+use share_spec::Req;
+use smb_base::{NoMemory, Units};
+use smb_body_a::{
+    read_empty, read_negotiate_request, read_session_setup_request, read_tree_connect_request,
+};
+use smb_body_b::{
+    ContextSet, CreateRequest, read_close_request, read_contexts, read_create_request,
+};
+use smb_body_c::read_query_info_request;
+use smb_head::read_head;
+use smb_le::get_u16;
+use std::alloc::Global;
+
+/// The command NEGOTIATE (MS-SMB2 2.2.3).
+pub const NEGOTIATE: u16 = 0;
+
+/// The command SESSION_SETUP (MS-SMB2 2.2.5).
+pub const SESSION_SETUP: u16 = 1;
+
+/// The command LOGOFF (MS-SMB2 2.2.7).
+const LOGOFF: u16 = 2;
+
+/// The command TREE_CONNECT (MS-SMB2 2.2.9).
+pub const TREE_CONNECT: u16 = 3;
+
+/// The command TREE_DISCONNECT (MS-SMB2 2.2.11).
+const TREE_DISCONNECT: u16 = 4;
+
+/// The command CREATE (MS-SMB2 2.2.13).
+const CREATE: u16 = 5;
+
+/// The command CLOSE (MS-SMB2 2.2.15).
+const CLOSE: u16 = 6;
+
+/// The command ECHO (MS-SMB2 2.2.28).
+const ECHO: u16 = 13;
+
+/// The command QUERY_INFO (MS-SMB2 2.2.37).
+const QUERY_INFO: u16 = 16;
+
+/// Information of a file (MS-SMB2 2.2.37).
+const FILE: u8 = 1;
+
+/// FileAllInformation (MS-FSCC 2.4).
+const ALL: u8 = 18;
+
+/// The flag of replies (MS-SMB2 2.2.1.2).
+const REPLY: u32 = 1;
+
+/// The flag of a request that goes by the last CREATE before it in its frame.
+const RELATED: u32 = 4;
+
+/// What a message asks for.
+#[derive(Debug, Drop)]
+pub enum Asked {
+    /// Something of the connection itself: a step of a mount, an ECHO, or the end of a tree or a session.
+    Aside,
+    /// This of the share, and whether it is related to the CREATE before it in its frame (MS-SMB2 3.3.5.2.7.2).
+    Share(bool, Req),
+}
+
+// The flags have this one.
+fn has(flags: u32, flag: u32) -> bool
+    ensures { result ≡ has flags flag }
+{
+    flags & flag != 0
+}
+
+// What a message asks for, if it is a request that is known.
+#[tactic(auto, unfolding(fs_plain::specs::Requests::asked))]
+pub(crate) fn what_is_asked(alloc: Global, message: &[u8]) -> Result<Option<Asked>, NoMemory>
+    ensures exact { IfOk result (λ a. option_map as_asked a ≡ asked message.now) }
+    ensures taken { IfOk result (λ a. IfSome a (λ x. is_taken x ≡ true)) }
+{
+    let Ok(head) = read_head(message) else {
+        return Ok(None);
+    };
+    if has(head.flags.0, REPLY) {
+        return Ok(None);
+    }
+    asked_by(alloc, head.command, has(head.flags.0, RELATED), message)
+}
+
+// What a message of this command asks for.
+fn asked_by(
+    alloc: Global,
+    command: u16,
+    related: bool,
+    message: &[u8],
+) -> Result<Option<Asked>, NoMemory>
+    ensures exact { IfOk result (λ a. option_map as_asked a ≡ by_command command related message.now) }
+    ensures taken { IfOk result (λ a. IfSome a (λ x. is_taken x ≡ true)) }
+{
+    match command {
+        CREATE => asked_create(alloc, related, message),
+        CLOSE => Ok(asked_close(related, message)),
+        QUERY_INFO => Ok(asked_query(related, message)),
+        command => Ok(asked_aside(command, message)),
+    }
+}
+
+// A request of the connection itself, if its body reads.
+fn asked_aside(command: u16, message: &[u8]) -> Option<Asked>
+    ensures exact { option_map as_asked result ≡ (if is_aside command message.now then Some wire.Aside else None) }
+    ensures taken { IfSome result (λ x. is_taken x ≡ true) }
+{
+    if reads_aside(command, message) {
+        Some(Asked::Aside)
+    } else {
+        None
+    }
+}
+
+// The command is one of those, and its body reads.
+fn reads_aside(command: u16, message: &[u8]) -> bool
+    ensures { result ≡ is_aside command message.now }
+{
+    match command {
+        NEGOTIATE => reads_negotiate(message),
+        SESSION_SETUP => reads_session(message),
+        TREE_CONNECT => reads_tree(message),
+        LOGOFF => reads_empty(message),
+        TREE_DISCONNECT => reads_empty(message),
+        ECHO => reads_empty(message),
+        _ => false,
+    }
+}
+
+fn reads_negotiate(message: &[u8]) -> bool
+    ensures { result ≡ (has_body 36 message.now && nat_le (100 + 2 * number_at 2 66 message.now) (length message.now)) }
+{
+    read_negotiate_request(message).is_ok()
+}
+
+fn reads_session(message: &[u8]) -> bool
+    ensures { result ≡ (has_body 25 message.now && lies 25 (number_at 2 76 message.now) (number_at 2 78 message.now) message.now) }
+{
+    read_session_setup_request(message).is_ok()
+}
+
+fn reads_tree(message: &[u8]) -> bool
+    ensures { result ≡ (has_body 9 message.now && lies 9 (number_at 2 68 message.now) (number_at 2 70 message.now) message.now) }
+{
+    read_tree_connect_request(message).is_ok()
+}
+
+fn reads_empty(message: &[u8]) -> bool
+    ensures { result ≡ has_body 4 message.now }
+{
+    read_empty(message).is_ok()
+}
+
+// The body of a CREATE, if it reads.
+fn create_of(message: &[u8]) -> Option<CreateRequest<'_>>
+    ensures reads { MatchOption result (is_create message.now ≡ false) (λ _. is_create message.now ≡ true) }
+    ensures fields { IfSome result (λ x. IsCreateIn x message.now) }
+{
+    match read_create_request(message) {
+        Ok(create) => Some(create),
+        Err(_) => None,
+    }
+}
+
+// A CREATE, if it reads and wants neither a lease nor a durable open, new or old.
+fn asked_create(alloc: Global, related: bool, message: &[u8]) -> Result<Option<Asked>, NoMemory>
+    ensures exact { IfOk result (λ a. option_map as_asked a ≡ create_asked related message.now) }
+    ensures taken { IfOk result (λ a. IfSome a (λ x. is_taken x ≡ true)) }
+{
+    let Some(create) = create_of(message) else {
+        return Ok(None);
+    };
+    if !are_plain(create.contexts) {
+        return Ok(None);
+    }
+    Ok(Some(Asked::Share(
+        related,
+        Req::Create {
+            path: units_of(alloc, create.name)?,
+            access: create.access,
+            share: create.share,
+            disposition: create.disposition,
+            options: create.options,
+            attributes: create.attributes,
+            lease: None,
+            durable: false,
+        },
+    )))
+}
+
+// Contexts that read, and that want neither a lease nor a durable open, new or old.
+fn are_plain(contexts: &[u8]) -> bool
+    ensures { result ≡ are_plain (read_of false contexts.now) }
+{
+    match read_contexts(contexts, false) {
+        Ok(set) => is_plain(set),
+        Err(_) => false,
+    }
+}
+
+// The contexts want neither a lease nor a durable open, new or old.
+fn is_plain(contexts: ContextSet) -> bool
+    ensures { result ≡ is_plain contexts }
+{
+    contexts.lease.is_none() && !contexts.durable && contexts.reclaim.is_none()
+}
+
+// The first unit of UTF-16 that these bytes are, the low byte first, and the bytes after it.
+#[tactic(auto, using(crate::proofs::Units::units_first, crate::proofs::Units::units_none))]
+fn first_unit(bytes: &[u8]) -> Option<(u16, &[u8])>
+    ensures units { MatchOption result (units_in bytes.now ≡ []) (λ p. units_in bytes.now ≡ p.0 ∷ units_in p.1.now) }
+    ensures shorter { IfSome result (λ p. length p.1.now < length bytes.now) }
+{
+    if bytes.len() < 2 {
+        return None;
+    }
+    Some((get_u16(bytes, 0), behind_unit(bytes)))
+}
+
+// The bytes after the first two.
+fn behind_unit(bytes: &[u8]) -> &[u8]
+    requires { 2 ≤ length bytes.now }
+    ensures { result.now ≡ drop 2 bytes.now }
+{
+    &bytes[2..]
+}
+
+// The units of UTF-16 that these bytes are.
+fn units_of(alloc: Global, bytes: &[u8]) -> Result<Units, NoMemory>
+    ensures { IfOk result (λ u. u ≡ units_in bytes.now) }
+{
+    let mut units = Units::new(alloc);
+    let mut rest = bytes;
+    while let Some((unit, others)) = first_unit(rest) {
+        units.push(unit)?;
+        rest = others;
+    }
+    Ok(units)
+}
+
+// A CLOSE, if it reads.
+fn asked_close(related: bool, message: &[u8]) -> Option<Asked>
+    ensures exact { option_map as_asked result ≡ close_asked related message.now }
+    ensures taken { IfSome result (λ x. is_taken x ≡ true) }
+{
+    match read_close_request(message) {
+        Ok(close) => Some(Asked::Share(related, Req::Close { fid: close.file_id })),
+        Err(_) => None,
+    }
+}
+
+// A QUERY_INFO for all that is known of a file, if it reads.
+fn asked_query(related: bool, message: &[u8]) -> Option<Asked>
+    ensures exact { option_map as_asked result ≡ query_asked related message.now }
+    ensures taken { IfSome result (λ x. is_taken x ≡ true) }
+{
+    match read_query_info_request(message) {
+        Ok(query) => {
+            if query.info_type == FILE && query.class == ALL {
+                Some(Asked::Share(related, Req::Query { fid: query.file_id }))
+            } else {
+                None
+            }
+        }
+        Err(_) => None,
+    }
+}
