@@ -1,0 +1,5 @@
+pub mod Parts
+pub mod Sent
+pub mod Units
+pub mod Creates
+pub mod Waits

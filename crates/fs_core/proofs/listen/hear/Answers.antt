@@ -1,0 +1,54 @@
+use Rattle.std.proofs.Common.{◌≡◌, ◌≢◌, ◌+◌, ◌≤◌, ◌∙◌, ℕ, List, ◌++◌, take, drop, length, length-append, length-take, length-drop, sym, ap, subst, arith}
+use Rattle.std.proofs.lemmas.List.{take-append-le, length-take-le}
+use Rattle.smb_head.specs.Stream.{first_of, Partial, lack_of}
+use Rattle.fs_core.specs.Hearing.{TakesIn}
+use Rattle.fs_core.proofs.Waits.{Waits, waits_now, waits_got, waits_quiet, partial_short, partial_lacks, hears_taken}
+use Rattle.fs_core.proofs.listen.hear.Goals as goal
+
+pub receive-requires : goal.receive-requires
+receive-requires g c =
+    let w = c.loop-frames.invariant in
+    let some = partial_lacks c.loop-frames.frames w.partial in
+    let room = w.some in
+    omega (arith, c.min-room.ensures, c.lacks.ensures, length-take c.min-room.result c.loop-frames.buf)
+
+pub returns-in-Some : goal.returns-in-Some
+returns-in-Some g c = record {
+  hears =
+      let w = waits_now _ _ _ _ _ _ _ _ _ c.loop-frames.invariant c.in-Ok.ensures.1 in
+      let e = c.in-Bytes.ensures in
+      let piece : take c.in-Bytes.n (c.receive.new.buf ++ drop c.min-room.result c.loop-frames.buf) ≡ take c.in-Bytes.n c.receive.new.buf = take-append-le c.in-Bytes.n c.receive.new.buf (drop c.min-room.result c.loop-frames.buf) (omega (arith, e.bytes.1)) in
+      let few : length (take c.in-Bytes.n c.receive.new.buf) ≤ lack_of c.loop-frames.frames = omega (arith, e.bytes.1, c.receive.auto.buf, c.min-room.ensures, c.lacks.ensures, length-take c.min-room.result c.loop-frames.buf, length-take-le c.in-Bytes.n c.receive.new.buf (omega (arith, e.bytes.1))) in
+      hears_taken _ _ _ _ _ (take c.in-Bytes.n c.receive.new.buf) _ _ _ _ c.in-Some.heard w e.story
+      (subst (λ (p : List ℕ). TakesIn (c.loop-frames.frames ++ p) c.take_in.new.frames c.in-Some.heard) piece c.in-Some.ensures.ends) few;
+}
+
+pub loop-frames-smaller-in-None : goal.loop-frames-smaller-in-None
+loop-frames-smaller-in-None g c =
+    let e = c.in-Bytes.ensures in
+    let went = c.in-None.ensures.goes_on in
+    let piece : take c.in-Bytes.n (c.receive.new.buf ++ drop c.min-room.result c.loop-frames.buf) ≡ take c.in-Bytes.n c.receive.new.buf = take-append-le c.in-Bytes.n c.receive.new.buf (drop c.min-room.result c.loop-frames.buf) (omega (arith, e.bytes.1)) in
+    let held : c.take_in.new.frames ≡ c.loop-frames.frames ++ take c.in-Bytes.n c.receive.new.buf = went.0 ∙ ap (λ (p : List ℕ). c.loop-frames.frames ++ p) piece in
+    let longer : length c.take_in.new.frames ≡ length c.loop-frames.frames + c.in-Bytes.n = ap length held ∙ length-append c.loop-frames.frames (take c.in-Bytes.n c.receive.new.buf) ∙ ap (λ (n : ℕ). length c.loop-frames.frames + n) (length-take-le c.in-Bytes.n c.receive.new.buf (omega (arith, e.bytes.1))) in
+    let short = partial_short c.take_in.new.frames (ap first_of went.0 ∙ went.1) in
+    let few = c.loop-frames.invariant.few in
+    omega (arith, e.bytes.0, c.ranges.patience.fits)
+
+pub loop-frames-preserved-in-None : goal.loop-frames-preserved-in-None
+loop-frames-preserved-in-None g c =
+    let w = waits_now _ _ _ _ _ _ _ _ _ c.loop-frames.invariant c.in-Ok.ensures.1 in
+    let e = c.in-Bytes.ensures in
+    let went = c.in-None.ensures.goes_on in
+    let piece : take c.in-Bytes.n (c.receive.new.buf ++ drop c.min-room.result c.loop-frames.buf) ≡ take c.in-Bytes.n c.receive.new.buf = take-append-le c.in-Bytes.n c.receive.new.buf (drop c.min-room.result c.loop-frames.buf) (omega (arith, e.bytes.1)) in
+    let held : c.take_in.new.frames ≡ c.loop-frames.frames ++ take c.in-Bytes.n c.receive.new.buf = went.0 ∙ ap (λ (p : List ℕ). c.loop-frames.frames ++ p) piece in
+    let long : length (c.receive.new.buf ++ drop c.min-room.result c.loop-frames.buf) ≡ length c.loop-frames.buf = omega (arith, c.receive.auto.buf, c.min-room.ensures, length-append c.receive.new.buf (drop c.min-room.result c.loop-frames.buf), length-take c.min-room.result c.loop-frames.buf, length-drop c.min-room.result c.loop-frames.buf) in
+    subst (λ (n : ℕ). Waits (g.L.Link.story c.args.link.now) (g.L.Link.story c.receive.new.self) c.args.frames.now c.take_in.new.frames 0 c.args.patience n) (sym long)
+    (subst (λ (h : List ℕ). Waits (g.L.Link.story c.args.link.now) (g.L.Link.story c.receive.new.self) c.args.frames.now h 0 c.args.patience (length c.loop-frames.buf)) (sym held)
+    (waits_got _ _ _ _ _ (take c.in-Bytes.n c.receive.new.buf) _ _ _ w e.story (subst (λ (p : List ℕ). first_of (c.loop-frames.frames ++ p) ≡ Partial) piece went.1)))
+
+pub loop-frames-preserved : goal.loop-frames-preserved
+loop-frames-preserved g c =
+    let w = waits_now _ _ _ _ _ _ _ _ _ c.loop-frames.invariant c.in-Ok.ensures.1 in
+    let long : length (c.receive.new.buf ++ drop c.min-room.result c.loop-frames.buf) ≡ length c.loop-frames.buf = omega (arith, c.receive.auto.buf, c.min-room.ensures, length-append c.receive.new.buf (drop c.min-room.result c.loop-frames.buf), length-take c.min-room.result c.loop-frames.buf, length-drop c.min-room.result c.loop-frames.buf) in
+    subst (λ (n : ℕ). Waits (g.L.Link.story c.args.link.now) (g.L.Link.story c.receive.new.self) c.args.frames.now c.loop-frames.frames (c.loop-frames.quiets + 1) c.args.patience n) (sym long)
+    (waits_quiet _ _ _ _ _ _ _ _ w c.in-Quiet.ensures.story (let few = c.loop-frames.invariant.few in let other : c.loop-frames.quiets + 1 ≢ c.args.patience = c.if-quiets-patience.false in omega arith))

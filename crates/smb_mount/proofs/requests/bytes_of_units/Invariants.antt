@@ -1,0 +1,6 @@
+use Rattle.std.proofs.Common.{◌≡◌, ◌*◌, take, length}
+use Rattle.smb_mount.specs.Requests.{unit_bytes}
+use Rattle.smb_mount.proofs.requests.bytes_of_units.Given as goal
+
+abbrev pub invariant-loop-unit : goal.invariant-loop-unit
+invariant-loop-unit l = (l.bytes.items ≡ unit_bytes (take l.unit-index l.units)) × (length l.bytes.items ≡ 2 * l.unit-index)

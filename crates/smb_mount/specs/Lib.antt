@@ -1,0 +1,5 @@
+pub mod Kept
+pub mod Tokens
+pub mod Requests
+pub mod Replies
+pub mod Verdicts
