@@ -91,6 +91,7 @@ moved s s' r r' v old same tree leases standing pairs kept announced begun runni
       owners = subst (λ (o : List Owner). AllByRecursion (IsOwned o) v.flights) (sym owners) old.owners;
       belongs = old.belongs;
       calls = old.calls;
+      named = old.named;
       fresh = λ m low. record { owner = subst (λ (o : List Owner). owner_of (record { 0 = m }) o ≡ None) (sym owners) (old.fresh m low).owner; flight = (old.fresh m low).flight; flying = (old.fresh m low).flying };
     }
 

@@ -68,7 +68,7 @@ each_test pairs made who fid same (o ∷ os) all = (
 pub open_of_carried : (pairs : List (ℕ × ℕ)) (s : Share) (who : Who) (fid : Fid) → AreSame pairs s.opens_made → AreStanding s
     → open_of s.opens who (carried_fid pairs fid) ≡ open_of s.opens who fid
 open_of_carried pairs s who fid same numbered =
-    found_as who fid (carried_fid pairs fid) s.opens (each_test pairs s.opens_made who fid same s.opens numbered)
+    found_as who fid (carried_fid pairs fid) s.opens (each_test pairs s.opens_made who fid same s.opens numbered.0)
 
 -- another client's request on the plain share
 pub act_same : (pairs : List (ℕ × ℕ)) (choice : Option Grant) (s : Share) (who : Who) (r : Req)

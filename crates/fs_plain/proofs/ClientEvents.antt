@@ -13,7 +13,7 @@ use Rattle.fs_plain.specs.Replay.{Run, Running, Announced, Replay}
 use Rattle.fs_plain.specs.Answered.{odd_unless}
 use Rattle.fs_plain.specs.Differences.{is_right_begin, after_begin, is_right_for, after_for, announced_for}
 use Rattle.fs_plain.specs.View.{Item, Flight, View, same_flying, item_with, ran, IsNext, IsItems, Belongs, BelongsTo, new_item, with_item, announce, with_announced}
-use Rattle.fs_plain.specs.Related.{Related, IsOther, AreDistinct}
+use Rattle.fs_plain.specs.Related.{Related, IsOther, AreDistinct, IsNamed}
 use Rattle.fs_plain.proofs.Every.{every-snoc, every-more}
 
 map_snoc : (coming : List Owed) (items : List Item) (i : Item) → map (ran coming) (items ++ i ∷ []) ≡ map (ran coming) items ++ ran coming i ∷ []
@@ -88,6 +88,7 @@ begin_related run s r v number lane call old above free apart =
         owners = old.owners;
         belongs = every-more (Belongs v.items) (Belongs (v.items ++ item ∷ [])) (λ f b. belongs_still v.items item f.owner f b) v.flights old.belongs;
         calls = distinct_still v.items item refl old.calls apart;
+        named = every-snoc IsNamed v.items item old.named refl;
         fresh = λ m low. record {
           owner = (old.fresh m low).owner;
           flight = (old.fresh m low).flight;
@@ -164,6 +165,17 @@ all_announced coming number (i ∷ items) =
     ap (λ (c : Running). c ∷ map (announced_for number) (map (ran coming) items)) (announced_ran coming number i)
     ∙ ap (λ (l : List Running). ran coming (announce number i) ∷ l) (all_announced coming number items)
 
+announce_named : (number : ℕ) (i : Item) → IsNamed i → IsNamed (announce number i)
+announce_named number i named = by (i.number == number)
+  where
+    by : (t : Bool) → IsNamed (if t then record i { announced = true } else i)
+    by true = named
+    by false = named
+
+named_announced : (number : ℕ) (items : List Item) → AllByRecursion IsNamed items → AllByRecursion IsNamed (map (announce number) items)
+named_announced number [] named = tt
+named_announced number (i ∷ is) named = (announce_named number i named.0, named_announced number is named.1)
+
 -- the next frame is announced for a call that was begun
 pub for_related : (s : Share) (r : Replay) (v : View) (a : Announced) → Related s r v → list_any (λ n. n == a.number) v.begun ≡ true
     → (odd_unless (is_right_for r a.number) ≡ None) × Related s (after_for r a.number a.first a.count) (with_announced a v)
@@ -189,6 +201,7 @@ for_related s r v a old known =
         belongs = every-more (Belongs v.items) (Belongs (map (announce a.number) v.items))
             (λ f b. belongs_changed (announce a.number) (announce_leaves a.number) v.items f.owner f b) v.flights old.belongs;
         calls = distinct_changed (announce a.number) (announce_leaves a.number) v.items old.calls;
+        named = named_announced a.number v.items old.named;
         fresh = λ m low. record {
           owner = (old.fresh m low).owner;
           flight = (old.fresh m low).flight;

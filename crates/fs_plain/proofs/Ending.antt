@@ -16,8 +16,8 @@ use Rattle.smb_link.specs.Program.{Program, Say}
 use Rattle.fs_plain.specs.Replay.{Run, Running, Replay, running_with, running_but, at_first}
 use Rattle.fs_plain.specs.Answered.{Difference, finished, compared, is_not_compared, judge_answer_of, after_answer_of, judge_answer, after_answer, without_call}
 use Rattle.fs_plain.specs.Differences.{without_flight as without_owners}
-use Rattle.fs_plain.specs.View.{Item, Flight, View, same_flying, item_with, Sound, waits, ran, reply_of_flying, rest_after, IsOwned, IsItems, Belongs, BelongsTo, items_but, without_item}
-use Rattle.fs_plain.specs.Related.{Related, Settles, IsOther, AreDistinct}
+use Rattle.fs_plain.specs.View.{Item, Flight, View, same_flying, item_with, Sound, waits, ran, reply_of_flying, rest_after, IsOwned, IsItems, Belongs, BelongsTo, items_but, without_item, no_view}
+use Rattle.fs_plain.specs.Related.{Related, Settles, IsOther, AreDistinct, IsNamed}
 use Rattle.fs_plain.proofs.Every.{every-filter, every-more}
 use Rattle.fs_plain.proofs.SameLaws.{answer_itself}
 use Rattle.fs_plain.proofs.Identity.{none_made}
@@ -114,6 +114,7 @@ answer_related run s r v n i a old found says none =
         owners = old.owners;
         belongs = every-more (Belongs v.items) (Belongs (items_but n v.items)) (λ f b. belongs_but n v.items i f.owner f found none b) v.flights old.belongs;
         calls = distinct_but n v.items old.calls;
+        named = every-filter IsNamed (λ i. not (i.number == n)) v.items old.named;
         fresh = λ m low. record {
           owner = (old.fresh m low).owner;
           flight = (old.fresh m low).flight;
@@ -129,17 +130,13 @@ answer_related run s r v n i a old found says none =
         all_unit [] = tt
         all_unit (j ∷ js) = (record {}, all_unit js)
 
--- before the first event the client knows of nothing
-abbrev pub no_view : View
-no_view = record { items = []; flights = []; hand = []; held = []; announced = None; begun = []; connected = false; next = 0 }
-
 -- what is related at the start, whatever the share is going to choose
 pub start_related : (room : ℕ) (fold : Bool) (grants : List (Option Grant)) (story : List Event)
     → Related (record (fresh_share room fold) { grants = grants }) (at_first room fold story) no_view
 start_related room fold grants story = record {
   tree = refl;
   leases = refl;
-  standing = tt;
+  standing = (tt, record {});
   pairs = none_made;
   kept = refl;
   connected = refl;
@@ -154,6 +151,7 @@ start_related room fold grants story = record {
   owners = tt;
   belongs = tt;
   calls = record {};
+  named = tt;
   fresh = λ m low. record { owner = refl; flight = refl; flying = tt };
 }
 
@@ -161,7 +159,7 @@ start_related room fold grants story = record {
 none_coming : (coming : List Owed) → Sound [] coming → coming ≡ []
 none_coming [] sound = refl
 none_coming (owed.Interim m q ∷ coming) sound = absurd sound.0
-none_coming (owed.Reply m q reply ∷ coming) sound = absurd sound.0
+none_coming (owed.Reply m q reply ∷ coming) sound = absurd sound.0.1
 none_coming (owed.Aside m q ∷ coming) sound = absurd sound.0
 none_coming (owed.Notice key state ∷ coming) sound = absurd sound
 
@@ -187,5 +185,6 @@ join_related s r v old flights hand held announced = record {
   owners = subst (AllByRecursion (IsOwned [])) (sym flights) tt;
   belongs = old.belongs;
   calls = old.calls;
+  named = old.named;
   fresh = λ m low. record { owner = refl; flight = (old.fresh m low).flight; flying = (old.fresh m low).flying };
 }

@@ -15,8 +15,14 @@ use Rattle.smb_link.specs.Program.{Known}
 use Rattle.fs_plain.specs.World.{messages_in, messages_got, after_got}
 use Rattle.fs_plain.specs.Honest.{ArePaid, MayGet}
 use Rattle.fs_plain.specs.Replay.{Running, Replay}
-use Rattle.fs_plain.specs.View.{Item, Flight, View, same_flying, item_with, flights_but, left, Sound, calm, waits, reply_for, reply_of_flying, rest_after, opened_after, ran, IsOwned, IsNext, IsItems, Belongs, BelongsTo, messages_among, with_bytes, with_hand, without_flight, land, with_reply}
-use Rattle.fs_plain.specs.Related.{Related, Settles, IsOther, AreDistinct}
+use Rattle.smb_base.specs.declared.names.Fid.{Fid}
+use Rattle.share_spec.specs.Reply.{fid_of}
+use Rattle.fs_plain.specs.Replay.{opened_number}
+use Rattle.fs_plain.specs.Taken.{with_opened}
+use Rattle.share_spec.specs.declared.request.RepBody.{RepBody}
+use Rattle.share_spec.specs.declared.request.RepBody.TheVariants as body
+use Rattle.fs_plain.specs.View.{NamesIn, Names, fids_with, fids_after, Item, Flight, View, same_flying, item_with, flights_but, left, Sound, calm, waits, reply_for, reply_of_flying, rest_after, opened_after, ran, IsOwned, IsNext, IsItems, Belongs, BelongsTo, messages_among, with_bytes, with_hand, without_flight, land, with_reply}
+use Rattle.fs_plain.specs.Related.{Related, Settles, IsOther, AreDistinct, IsNamed}
 use Rattle.fs_plain.proofs.Every.{every-filter}
 use Rattle.fs_plain.proofs.Lookups.{but_still_none}
 use Rattle.fs_plain.proofs.Tooks.{all_ran_same}
@@ -73,6 +79,7 @@ got_related s r v bytes known old may =
       owners = old.owners;
       belongs = old.belongs;
       calls = old.calls;
+      named = old.named;
       fresh = λ m low. record { owner = (old.fresh m low).owner; flight = (old.fresh m low).flight; flying = (old.fresh m low).flying };
     })
 
@@ -98,6 +105,7 @@ interim_related s r v old m q paid message messages is hand =
       owners = old.owners;
       belongs = old.belongs;
       calls = old.calls;
+      named = old.named;
       fresh = λ m low. record { owner = (old.fresh m low).owner; flight = (old.fresh m low).flight; flying = (old.fresh m low).flying };
     }
 
@@ -123,6 +131,7 @@ aside_related s r v old m q paid message messages is hand =
       owners = every-filter (IsOwned r.owners) (λ f. not (f.mid.0 == m.0)) v.flights old.owners;
       belongs = every-filter (Belongs v.items) (λ f. not (f.mid.0 == m.0)) v.flights old.belongs;
       calls = old.calls;
+      named = old.named;
       fresh = λ n low. record {
         owner = (old.fresh n low).owner;
         flight = but_still_none (record { 0 = n }) m v.flights (old.fresh n low).flight;
@@ -133,7 +142,7 @@ aside_related s r v old m q paid message messages is hand =
 -- a call lands with its reply, and the others stay
 landed_ran : (m : Mid) (q : List ℕ) (reply : Rep) (coming : List Owed) (i : Item) (t : Bool) → same_flying (Some m) i.flying ≡ t
     → ran (owed.Reply m q reply ∷ coming) i
-    ≡ ran coming (if t then record i { rest = rest_after (Some reply) i.rest; opened = opened_after (Some reply) i.opened; flying = None } else i)
+    ≡ ran coming (if t then record i { rest = rest_after (Some reply) i.rest; opened = opened_after (Some reply) i.opened; fids = fids_after reply i.fids; flying = None } else i)
 landed_ran m q reply coming i true is = ap (λ (o : Option Rep). record {
   number = i.number;
   lane = i.lane;
@@ -169,7 +178,7 @@ all_landed m q reply coming (i ∷ items) =
 land_number : (m : Mid) (reply : Rep) (i : Item) → (land m reply i).number ≡ i.number
 land_number m reply i = by (same_flying (Some m) i.flying)
   where
-    by : (t : Bool) → (if t then record i { rest = rest_after (Some reply) i.rest; opened = opened_after (Some reply) i.opened; flying = None } else i).number ≡ i.number
+    by : (t : Bool) → (if t then record i { rest = rest_after (Some reply) i.rest; opened = opened_after (Some reply) i.opened; fids = fids_after reply i.fids; flying = None } else i).number ≡ i.number
     by true = refl
     by false = refl
 
@@ -187,9 +196,9 @@ found_landed m reply n (i ∷ items) = ap (λ (k : ℕ). if k == n then Some (la
 items_landed : (m : Mid) (reply : Rep) (o : Option Item) (f : Flight) → (m.0 == f.mid.0) ≡ false → IsItems o f → IsItems (option_map (land m reply) o) f
 items_landed m reply None f apart is = absurd is
 items_landed m reply (Some i) f apart is =
-    subst (λ (t : Bool). ((if t then record i { rest = rest_after (Some reply) i.rest; opened = opened_after (Some reply) i.opened; flying = None } else i).flying ≡ Some f.mid)
-    × IsNext (if t then record i { rest = rest_after (Some reply) i.rest; opened = opened_after (Some reply) i.opened; flying = None } else i).rest
-    (if t then record i { rest = rest_after (Some reply) i.rest; opened = opened_after (Some reply) i.opened; flying = None } else i).opened f.message)
+    subst (λ (t : Bool). ((if t then record i { rest = rest_after (Some reply) i.rest; opened = opened_after (Some reply) i.opened; fids = fids_after reply i.fids; flying = None } else i).flying ≡ Some f.mid)
+    × IsNext (if t then record i { rest = rest_after (Some reply) i.rest; opened = opened_after (Some reply) i.opened; fids = fids_after reply i.fids; flying = None } else i).rest
+    (if t then record i { rest = rest_after (Some reply) i.rest; opened = opened_after (Some reply) i.opened; fids = fids_after reply i.fids; flying = None } else i).opened f.message)
     (sym (ap (same_flying (Some m)) is.0 ∙ apart)) is
 
 belongs_landed : (m : Mid) (reply : Rep) (items : List Item) (owner : Option ℕ) (f : Flight) → (m.0 == f.mid.0) ≡ false → BelongsTo owner items f → BelongsTo owner (map (land m reply) items) f
@@ -211,7 +220,7 @@ all_belong m reply items (f ∷ fs) all = elim (eqb_tells f.mid.0 m.0) [
 land_flying : (m : Mid) (reply : Rep) (k : Mid) (i : Item) → same_flying (Some k) i.flying ≡ false → same_flying (Some k) (land m reply i).flying ≡ false
 land_flying m reply k i apart = by (same_flying (Some m) i.flying)
   where
-    by : (t : Bool) → same_flying (Some k) (if t then record i { rest = rest_after (Some reply) i.rest; opened = opened_after (Some reply) i.opened; flying = None } else i).flying ≡ false
+    by : (t : Bool) → same_flying (Some k) (if t then record i { rest = rest_after (Some reply) i.rest; opened = opened_after (Some reply) i.opened; fids = fids_after reply i.fids; flying = None } else i).flying ≡ false
     by true = refl
     by false = apart
 
@@ -225,8 +234,8 @@ land_other m reply i j other = (
     never None = refl
     never (Some n) = refl
 
-    by : (t u : Bool) → same_flying (if t then record i { rest = rest_after (Some reply) i.rest; opened = opened_after (Some reply) i.opened; flying = None } else i).flying
-        (if u then record j { rest = rest_after (Some reply) j.rest; opened = opened_after (Some reply) j.opened; flying = None } else j).flying ≡ false
+    by : (t u : Bool) → same_flying (if t then record i { rest = rest_after (Some reply) i.rest; opened = opened_after (Some reply) i.opened; fids = fids_after reply i.fids; flying = None } else i).flying
+        (if u then record j { rest = rest_after (Some reply) j.rest; opened = opened_after (Some reply) j.opened; fids = fids_after reply j.fids; flying = None } else j).flying ≡ false
     by true u = refl
     by false true = never i.flying
     by false false = other.1
@@ -243,6 +252,37 @@ all_flying : (m : Mid) (reply : Rep) (k : Mid) (items : List Item) → AllByRecu
     → AllByRecursion (λ i. same_flying (Some k) i.flying ≡ false) (map (land m reply) items)
 all_flying m reply k [] all = tt
 all_flying m reply k (i ∷ items) all = (land_flying m reply k i all.0, all_flying m reply k items all.1)
+
+-- a call that lands has the file id that its reply gives
+more_fids : (l : List ℕ) (n : ℕ) → map fid_of (l ++ n ∷ []) ≡ map fid_of l ++ fid_of n ∷ []
+more_fids [] n = refl
+more_fids (x ∷ xs) n = ap (λ (m : List Fid). fid_of x ∷ m) (more_fids xs n)
+
+fids_in : (b : RepBody) (fids : List Fid) (opened : List ℕ) → NamesIn b → fids ≡ map fid_of opened
+    → fids_with b fids ≡ map fid_of (if opened_number b == 0 then opened else opened ++ opened_number b ∷ [])
+fids_in (body.Opened fid action size attributes lease durable) fids opened names named =
+    ap (λ (l : List Fid). l ++ fid ∷ []) named ∙ ap (λ (x : Fid). map fid_of opened ++ x ∷ []) names.0 ∙ sym (more_fids opened fid.persistent)
+    ∙ sym (ap (λ (t : Bool). map fid_of (if t then opened else opened ++ fid.persistent ∷ [])) names.1)
+fids_in body.None fids opened names named = named
+fids_in (body.Bytes bytes) fids opened names named = named
+fids_in (body.Count count) fids opened names named = named
+fids_in (body.Info dir size read_only links pending number) fids opened names named = named
+fids_in (body.Names list) fids opened names named = named
+fids_in (body.Room total free) fids opened names named = named
+
+fids_named : (reply : Rep) (fids : List Fid) (opened : List ℕ) → Names reply → fids ≡ map fid_of opened → fids_after reply fids ≡ map fid_of (with_opened reply opened)
+fids_named reply fids opened names named = fids_in reply.body fids opened names named
+
+land_named : (m : Mid) (reply : Rep) (i : Item) → Names reply → IsNamed i → IsNamed (land m reply i)
+land_named m reply i names named = by (same_flying (Some m) i.flying)
+  where
+    by : (t : Bool) → IsNamed (if t then record i { rest = rest_after (Some reply) i.rest; opened = opened_after (Some reply) i.opened; fids = fids_after reply i.fids; flying = None } else i)
+    by true = fids_named reply i.fids i.opened names named
+    by false = named
+
+named_landed : (m : Mid) (reply : Rep) (items : List Item) → Names reply → AllByRecursion IsNamed items → AllByRecursion IsNamed (map (land m reply) items)
+named_landed m reply [] names named = tt
+named_landed m reply (i ∷ is) names named = (land_named m reply i names named.0, named_landed m reply is names named.1)
 
 -- the reply to a call's request is looked at: the call goes on with it
 pub reply_related : (s : Share) (r : Replay) (v : View) (old : Related s r v) (m : Mid) (q : List ℕ) (reply : Rep) (paid : List Owed) (message : List ℕ) (messages : List (List ℕ))
@@ -266,6 +306,7 @@ reply_related s r v old m q reply paid message messages is hand =
       owners = every-filter (IsOwned r.owners) (λ f. not (f.mid.0 == m.0)) v.flights old.owners;
       belongs = all_belong m reply v.items v.flights old.belongs;
       calls = distinct_landed m reply v.items old.calls;
+      named = named_landed m reply v.items (subst (λ (l : List Owed). Sound v.flights (l ++ s.owed)) is old.sound).0.0 old.named;
       fresh = λ n low. record {
         owner = (old.fresh n low).owner;
         flight = but_still_none (record { 0 = n }) m v.flights (old.fresh n low).flight;

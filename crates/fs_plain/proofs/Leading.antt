@@ -23,7 +23,8 @@ use Rattle.fs_plain.specs.Related.{Related}
 use Rattle.fs_plain.specs.Moves.{Holds, run_of, Leads}
 use Rattle.fs_plain.proofs.Moves.{shares_grow, client_grows, seen_otherwise}
 use Rattle.fs_plain.proofs.ClientEvents.{begin_related, for_related}
-use Rattle.fs_plain.proofs.Sending.{MaySend, send_related}
+use Rattle.fs_plain.specs.Sends.{MaySend}
+use Rattle.fs_plain.proofs.Sending.{send_related}
 use Rattle.fs_plain.proofs.Getting.{got_related}
 use Rattle.fs_plain.proofs.Ending.{answer_related, join_related}
 
@@ -136,6 +137,7 @@ leads_now options seed v time old new gains = leads_event options seed v v (even
       owners = old.owners;
       belongs = old.belongs;
       calls = old.calls;
+      named = old.named;
       fresh = old.fresh;
     }
 

@@ -15,5 +15,7 @@ pub mod ClientEvents
 pub mod Sending
 pub mod Getting
 pub mod Ending
+pub mod Cutting
 pub mod Moves
 pub mod Leading
+pub mod Leaving

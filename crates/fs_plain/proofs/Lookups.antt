@@ -9,7 +9,7 @@ use Rattle.share_spec.specs.declared.connection.Owed.{Owed}
 use Rattle.share_spec.specs.declared.connection.Owed.TheVariants as owed
 use Rattle.share_spec.specs.declared.request.Rep.{Rep}
 use Rattle.fs_plain.specs.World.{sent_with, sent_but}
-use Rattle.fs_plain.specs.View.{Flight, flight_with, flights_but, left, IsFor, IsOf, Sound, calm, waits, reply_for}
+use Rattle.fs_plain.specs.View.{Names, Flight, flight_with, flights_but, left, IsFor, IsOf, Sound, calm, waits, reply_for}
 
 some_calm : (mid : Mid) (x : Sent) (t : Bool) (other other' : Option Sent) → option_map calm other ≡ other'
     → option_map calm (if t then Some x else other) ≡ (if t then Some (calm x) else other')
@@ -157,7 +157,7 @@ left_reply m q reply fs (owed.Reply m' q' reply' ∷ coming) = left_reply m q re
 left_reply m q reply fs (owed.Aside m' q' ∷ coming) = left_reply m q reply (flights_but m' fs) coming
 left_reply m q reply fs (owed.Notice key state ∷ coming) = left_reply m q reply fs coming
 
-pub sound_reply : (m : Mid) (q : List ℕ) (reply : Rep) (fs : List Flight) (coming : List Owed) → Sound fs coming → IsFor true q (flight_with m (left fs coming)) → Sound fs (coming ++ owed.Reply m q reply ∷ [])
+pub sound_reply : (m : Mid) (q : List ℕ) (reply : Rep) (fs : List Flight) (coming : List Owed) → Sound fs coming → Names reply × IsFor true q (flight_with m (left fs coming)) → Sound fs (coming ++ owed.Reply m q reply ∷ [])
 sound_reply m q reply fs [] sound new = (new, record {})
 sound_reply m q reply fs (owed.Interim m' q' ∷ coming) sound new = (sound.0, sound_reply m q reply fs coming sound.1 new)
 sound_reply m q reply fs (owed.Reply m' q' reply' ∷ coming) sound new = (sound.0, sound_reply m q reply (flights_but m' fs) coming sound.1 new)

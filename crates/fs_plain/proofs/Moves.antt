@@ -53,7 +53,7 @@ both_true true b is = (refl, is)
 both_true false b is = absurd (false≢true is)
 
 -- any number of the share's own events
-shares : (run : Run) (v : View) (s : Share) (r : Replay) (events : List Event) → list_all is_of_share events ≡ true → Related s r v → HonestFrom s events
+pub shares : (run : Run) (v : View) (s : Share) (r : Replay) (events : List Event) → list_all is_of_share events ≡ true → Related s r v → HonestFrom s events
     → NoDifference run s r events × Related (share_after s events) (replay_after run s r events) v
 shares run v s r [] own old honest = (record {}, old)
 shares run v s r (e ∷ events) own old honest =

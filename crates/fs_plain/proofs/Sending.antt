@@ -1,6 +1,6 @@
 -- A request is sent: it is in flight from then on.
 use Rattle.std.proofs.Common.{rules, ◌≡◌, ℕ, true, false, [], ◌∷◌, ◌++◌, ◌+◌, ◌≤◌, refl, ap, sym, subst, ◌∙◌, inl, inr, None, Some, List, Option, Bool, ◌==◌, not, if◌then◌else◌}
-use Rattle.std.specs.Prelude.{map, option_map, is_none, nat_le, length, take, Result, Ok}
+use Rattle.std.specs.Prelude.{zero, suc, map, option_map, is_none, nat_le, length, take, Result, Ok}
 use Rattle.std.specs.List.{AllByRecursion}
 use Rattle.std.proofs.lemmas.Bool.{false≢true}
 use Rattle.std.proofs.lemmas.Bool.Decides.{eqb_tells}
@@ -12,7 +12,12 @@ use Rattle.share_spec.specs.declared.connection.Owed.{Owed}
 use Rattle.share_spec.specs.declared.connection.Owed.TheVariants as owed
 use Rattle.share_spec.specs.declared.request.Rep.{Rep}
 use Rattle.share_spec.specs.declared.share.Share.{Share}
-use Rattle.smb_link.specs.Program.{Known}
+use Rattle.smb_base.specs.declared.names.Fid.{Fid}
+use Rattle.share_spec.specs.declared.request.Req.{Req}
+use Rattle.share_spec.specs.declared.request.Req.TheVariants as req
+use Rattle.share_spec.specs.Reply.{fid_of}
+use Rattle.smb_link.specs.Program.{File, Own, Named, Wish, Open as Opening, Query, Close, Program, Ask, Look, Say, Known}
+use Rattle.fs_plain.specs.Taken.{nth, plain_file, plain_wish}
 use Rattle.share_spec.specs.declared.connection.LastCreate.TheVariants as last
 use Rattle.fs_plain.specs.Requests.{Asked, asked}
 use Rattle.fs_plain.specs.World.{mid_of, messages_of, requests_among, first_mid, requests_in, after_sent}
@@ -20,7 +25,8 @@ use Rattle.fs_plain.specs.Replay.{Running, Announced, Owner, Replay, owner_of}
 use Rattle.fs_plain.specs.Answered.{odd_unless}
 use Rattle.fs_plain.specs.Differences.{mids_among, mids_in, from, is_right_sending, owned, after_sending}
 use Rattle.fs_plain.specs.View.{Item, Flight, View, same_flying, item_with, flight_with, flights_but, left, IsFor, IsOf, Sound, calm, waits, reply_for, reply_of_flying, rest_after, opened_after, ran, is_owned_by, IsOwned, IsNext, IsItems, Belongs, BelongsTo, is_number, fly, with_flight}
-use Rattle.fs_plain.specs.Related.{Related, IsOther, AreDistinct, IsFresh}
+use Rattle.fs_plain.specs.Related.{Related, IsOther, AreDistinct, IsNamed, IsFresh}
+use Rattle.fs_plain.specs.Sends.{nth_fid, fid_of_file, wish_of, IsWish, MayFlyFor, MayFly, IsIdle, IsAnnounced, MaySend}
 use Rattle.fs_plain.proofs.Every.{every-snoc, every-more}
 use Rattle.fs_plain.proofs.Lookups.{but_still_none}
 use Rattle.fs_plain.proofs.Tooks.{item_holds}
@@ -69,7 +75,7 @@ left_more : (fs : List Flight) (f : Flight) (coming : List Owed) → Sound fs co
 left_more fs f [] sound none = refl
 left_more fs f (owed.Interim m q ∷ coming) sound none = left_more fs f coming sound.1 none
 left_more fs f (owed.Reply m q reply ∷ coming) sound none =
-    ap (λ (l : List Flight). left l coming) (but_more m fs f (apart_of m f.mid fs q true none sound.0))
+    ap (λ (l : List Flight). left l coming) (but_more m fs f (apart_of m f.mid fs q true none sound.0.1))
     ∙ left_more (flights_but m fs) f coming sound.1 (but_still_none f.mid m fs none)
 left_more fs f (owed.Aside m q ∷ coming) sound none =
     ap (λ (l : List Flight). left l coming) (but_more m fs f (apart_of m f.mid fs q false none sound.0))
@@ -81,8 +87,8 @@ sound_more fs f [] sound none = record {}
 sound_more fs f (owed.Interim m q ∷ coming) sound none =
     (subst (IsOf q) (sym (with_more m fs f (apart_of_too m f.mid fs q none sound.0))) sound.0, sound_more fs f coming sound.1 none)
 sound_more fs f (owed.Reply m q reply ∷ coming) sound none = (
-  subst (IsFor true q) (sym (with_more m fs f (apart_of m f.mid fs q true none sound.0))) sound.0,
-  subst (λ (l : List Flight). Sound l coming) (sym (but_more m fs f (apart_of m f.mid fs q true none sound.0)))
+  (sound.0.0, subst (IsFor true q) (sym (with_more m fs f (apart_of m f.mid fs q true none sound.0.1))) sound.0.1),
+  subst (λ (l : List Flight). Sound l coming) (sym (but_more m fs f (apart_of m f.mid fs q true none sound.0.1)))
       (sound_more (flights_but m fs) f coming sound.1 (but_still_none f.mid m fs none)),
 )
 sound_more fs f (owed.Aside m q ∷ coming) sound none = (
@@ -96,22 +102,48 @@ no_reply_yet : (fs : List Flight) (n : Mid) (coming : List Owed) → Sound fs co
 no_reply_yet fs n [] sound none = refl
 no_reply_yet fs n (owed.Interim m q ∷ coming) sound none = no_reply_yet fs n coming sound.1 none
 no_reply_yet fs n (owed.Reply m q reply ∷ coming) sound none =
-    ap (λ (t : Bool). if t then Some reply else reply_for n coming) (turned n.0 m.0 (apart_of m n fs q true none sound.0))
+    ap (λ (t : Bool). if t then Some reply else reply_for n coming) (turned n.0 m.0 (apart_of m n fs q true none sound.0.1))
     ∙ no_reply_yet (flights_but m fs) n coming sound.1 (but_still_none n m fs none)
 no_reply_yet fs n (owed.Aside m q ∷ coming) sound none = no_reply_yet (flights_but m fs) n coming sound.1 (but_still_none n m fs none)
 no_reply_yet fs n (owed.Notice key state ∷ coming) sound none = absurd sound
 
--- the call of a request has none in flight, and the request is the next one of its program
-abbrev pub MayFlyFor : Option Item → Flight → Type 0
-MayFlyFor None f = ⊥
-MayFlyFor (Some i) f = IsNext i.rest i.opened f.message
+-- the request is the next one of its call, as the plain client makes it
+abbrev FliesFor : Option Item → Flight → Type 0
+FliesFor None f = ⊥
+FliesFor (Some i) f = IsNext i.rest i.opened f.message
 
-abbrev pub MayFly : Option ℕ → List Item → Flight → Type 0
-MayFly None items f = asked f.message ≡ Some Asked.Aside
-MayFly (Some n) items f = MayFlyFor (item_with n items) f
+abbrev Flies : Option ℕ → List Item → Flight → Type 0
+Flies None items f = asked f.message ≡ Some Asked.Aside
+Flies (Some n) items f = FliesFor (item_with n items) f
 
-abbrev pub IsIdle : Flight → Item → Type 0
-IsIdle f i = is_number f.owner i.number ≡ true → i.flying ≡ None
+nth_named : (n : ℕ) (opened : List ℕ) → nth_fid n (map fid_of opened) ≡ fid_of (nth n opened)
+nth_named zero [] = refl
+nth_named (suc n) [] = refl
+nth_named zero (x ∷ xs) = refl
+nth_named (suc n) (x ∷ xs) = nth_named n xs
+
+file_named : (opened : List ℕ) (file : File) → fid_of_file (map fid_of opened) file ≡ fid_of (plain_file opened file)
+file_named opened (Own n) = nth_named n opened
+file_named opened Named = refl
+
+wish_named : (opened : List ℕ) (wish : Wish) → wish_of (map fid_of opened) wish ≡ plain_wish opened wish
+wish_named opened (Opening path access disposition options) = refl
+wish_named opened (Query file) = ap (λ (fid : Fid). req.Query fid) (file_named opened file)
+wish_named opened (Close file) = ap (λ (fid : Fid). req.Close fid) (file_named opened file)
+
+next_named : (rest : Program) (fids : List Fid) (opened : List ℕ) (message : List ℕ) → fids ≡ map fid_of opened → IsWish rest fids message → IsNext rest opened message
+next_named (Ask wish rest) fids opened message named is =
+    is ∙ ap (λ (l : List Fid). Some (Asked.Share false (wish_of l wish))) named ∙ ap (λ (q : Req). Some (Asked.Share false q)) (wish_named opened wish)
+next_named (Look rest) fids opened message named is = is
+next_named (Say answer) fids opened message named is = is
+
+named_flies : (f : Flight) (n : ℕ) (items : List Item) (o : Option Item) → item_with n items ≡ o → AllByRecursion IsNamed items → MayFlyFor o f → FliesFor o f
+named_flies f n items None found named may = may
+named_flies f n items (Some i) found named may = next_named i.rest i.fids i.opened f.message (item_holds IsNamed n items i found named).0 may
+
+flies_by : (f : Flight) (items : List Item) (owner : Option ℕ) → AllByRecursion IsNamed items → MayFly owner items f → Flies owner items f
+flies_by f items None named may = may
+flies_by f items (Some n) named may = named_flies f n items (item_with n items) refl named may
 
 fly_number : (f : Flight) (i : Item) → (fly f i).number ≡ i.number
 fly_number f i = by (is_number f.owner i.number)
@@ -154,7 +186,7 @@ flies f n i owner number next = subst (λ (t : Bool). ((if t then record i { fly
     itself : (n : ℕ) → (n == n) ≡ true
     itself n = search rules
 
-flies_to : (f : Flight) (n : ℕ) (items : List Item) (o : Option Item) → item_with n items ≡ o → f.owner ≡ Some n → MayFlyFor o f → IsItems (option_map (fly f) o) f
+flies_to : (f : Flight) (n : ℕ) (items : List Item) (o : Option Item) → item_with n items ≡ o → f.owner ≡ Some n → FliesFor o f → IsItems (option_map (fly f) o) f
 flies_to f n items None found owner may = absurd may
 flies_to f n items (Some i) found owner may = flies f n i owner (item_holds (λ (j : Item). Unit {0}) n items i found (all_unit items)).1 may
   where
@@ -162,7 +194,7 @@ flies_to f n items (Some i) found owner may = flies f n i owner (item_holds (λ 
     all_unit [] = tt
     all_unit (j ∷ js) = (record {}, all_unit js)
 
-new_belongs : (f : Flight) (items : List Item) (owner : Option ℕ) → f.owner ≡ owner → MayFly owner items f → BelongsTo owner (map (fly f) items) f
+new_belongs : (f : Flight) (items : List Item) (owner : Option ℕ) → f.owner ≡ owner → Flies owner items f → BelongsTo owner (map (fly f) items) f
 new_belongs f items None is may = may
 new_belongs f items (Some n) is may = subst (λ (o : Option Item). IsItems o f) (sym (found_flown f n items)) (flies_to f n items (item_with n items) refl is may)
 
@@ -228,11 +260,6 @@ fresh_flown f m (i ∷ items) apart all = (by (is_number f.owner i.number), fres
     by true = apart
     by false = all.0
 
--- the mark before the frame speaks of the request: its call, its id and that it is one; or there is no mark and no call
-abbrev pub IsAnnounced : Option Announced → Flight → Type 0
-IsAnnounced None f = f.owner ≡ None
-IsAnnounced (Some a) f = (f.owner ≡ Some a.number) × (a.first.0 ≡ f.mid.0) × (a.count ≡ 1)
-
 -- the owners with those of the frame
 abbrev pub new_owners : Known → Option Announced → Flight → List Owner
 new_owners known None f = []
@@ -294,17 +321,6 @@ map_calm_snoc : (xs : List Sent) (x : Sent) → map calm (xs ++ x ∷ []) ≡ ma
 map_calm_snoc [] x = refl
 map_calm_snoc (y ∷ ys) x = ap (λ (l : List Sent). calm y ∷ l) (map_calm_snoc ys x)
 
--- a frame of one request that the client may send
-pub record MaySend (v : View) (f : Flight) (frame : List ℕ) : Type 0 where
-  pub connected : v.connected ≡ true
-  pub next : v.next ≤ f.mid.0
-  pub announced : IsAnnounced v.announced f
-  pub idle : AllByRecursion (IsIdle f) v.items
-  pub asks : MayFly f.owner v.items f
-  pub known : is_none (asked f.message) ≡ false
-  pub mid : mid_of f.message ≡ f.mid
-  pub alone : messages_of (first_of frame) ≡ Ok f.message ∷ []
-
 requests_is : (f : Flight) (frame : List ℕ) → messages_of (first_of frame) ≡ Ok f.message ∷ [] → mid_of f.message ≡ f.mid → is_none (asked f.message) ≡ false
     → requests_in frame ≡ waits f ∷ []
 requests_is f frame alone mid known =
@@ -314,6 +330,17 @@ requests_is f frame alone mid known =
 
 sent_is : (s : Share) (frame : List ℕ) → s.connected ≡ true → record s { sent = s.sent ++ requests_in frame } ≡ after_sent frame s
 sent_is s frame connected = sym (ap (λ (t : Bool). if t then record s { sent = s.sent ++ requests_in frame } else s) connected)
+
+fly_named : (f : Flight) (i : Item) → IsNamed i → IsNamed (fly f i)
+fly_named f i named = by (is_number f.owner i.number)
+  where
+    by : (t : Bool) → IsNamed (if t then record i { flying = Some f.mid } else i)
+    by true = named
+    by false = named
+
+named_flown : (f : Flight) (items : List Item) → AllByRecursion IsNamed items → AllByRecursion IsNamed (map (fly f) items)
+named_flown f [] named = tt
+named_flown f (i ∷ is) named = (fly_named f i named.0, named_flown f is named.1)
 
 -- a request is sent
 pub send_related : (s : Share) (r : Replay) (v : View) (f : Flight) (frame : List ℕ) → Related s r v → MaySend v f frame
@@ -353,8 +380,9 @@ send_related s r v f frame old may =
             (owner_here r.known v.announced f r.owners may.announced fresh.owner));
         belongs = every-snoc (Belongs (map (fly f) v.items)) v.flights f
             (every-more (Belongs v.items) (Belongs (map (fly f) v.items)) (λ g b. belongs_flown f g v.items g.owner may.idle b) v.flights old.belongs)
-            (new_belongs f v.items f.owner refl may.asks);
+            (new_belongs f v.items f.owner refl (flies_by f v.items f.owner old.named may.asks));
         calls = distinct_flown f v.items old.calls fresh.flying;
+        named = named_flown f v.items old.named;
         fresh = λ m low.
             let before : IsFresh m r.owners v = old.fresh m (below v.next f.mid.0 m may.next low) in record {
               owner = subst (λ (l : List Owner). owner_of (record { 0 = m }) l ≡ None) (sym owners)

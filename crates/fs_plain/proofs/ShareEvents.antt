@@ -182,7 +182,7 @@ share_related run s r v (event.Pend mid) is old may = (
 share_related run s r v (event.Act who request reply) is old may = act_related run s r v who request reply old may
 share_related run s r v (event.Break key state) is old may = absurd (not_broken s.opens key s.leases state old.leases may)
 share_related run s r v (event.Dropped key) is old may =
-    let same : happens s (event.Dropped key) ≡ s = ap (λ (l : List Open). all_closed l s) (none_dropped s.opens_made key s.opens old.standing) in (
+    let same : happens s (event.Dropped key) ≡ s = ap (λ (l : List Open). all_closed l s) (none_dropped s.opens_made key s.opens old.standing.0) in (
       refl,
       subst (λ (t : Share). Related t (next run s r (event.Dropped key)) v) (sym same)
           (subst (λ (t : Replay). Related s t v) (sym (none_ended s r (event.Dropped key) same)) old),

@@ -1,6 +1,6 @@
 -- What a request does to the numbers of opens.
 use Rattle.std.proofs.Common.{rules, ◌≡◌, ℕ, true, false, [], ◌∷◌, ◌++◌, ◌+◌, ◌≤◌, refl, inl, inr, None, Some, List, Option, Bool, ◌==◌, not, if◌then◌else◌}
-use Rattle.std.specs.Prelude.{map, ◌⊎◌}
+use Rattle.std.specs.Prelude.{map, filter, ◌⊎◌}
 use Rattle.std.specs.List.{AllByRecursion, list_all}
 use Rattle.share_spec.specs.declared.connection.Grant.{Grant}
 use Rattle.share_spec.specs.declared.opens.Open.{Open}
@@ -25,7 +25,8 @@ use Rattle.share_spec.specs.Close.{open_of, close_open, closed, kept_leases}
 use Rattle.share_spec.specs.Query.{query_open}
 use Rattle.share_spec.specs.Step.{step_of}
 use Rattle.fs_plain.specs.Replay.{opened_number}
-use Rattle.fs_plain.specs.Related.{IsStanding, AreStanding}
+use Rattle.fs_plain.specs.View.{Names}
+use Rattle.fs_plain.specs.Related.{IsStanding, IsAnother, AreApart, AreStanding}
 use Rattle.fs_plain.proofs.Every.{every-snoc, every-filter, every-more}
 
 -- what was done gave no open and made none, or gave the one that it made, which has the next number
@@ -175,11 +176,35 @@ next_too : (n m : ℕ) → n ≤ m → n ≤ m + 1
 next_too n m below = search rules
 
 still_numbered : (m : ℕ) (opens : List Open) → AllByRecursion (IsStanding m) opens → AllByRecursion (IsStanding (m + 1)) opens
-still_numbered m opens all = every-more (IsStanding m) (IsStanding (m + 1)) (λ o is. (is.0, next_too o.number m is.1, is.2)) opens all
+still_numbered m opens all = every-more (IsStanding m) (IsStanding (m + 1)) (λ o is. (is.0, next_too o.number m is.1, is.2, is.3)) opens all
 
-one_more_numbered : (m : ℕ) (opens : List Open) (o : Open) → o.number ≡ m + 1 → o.connected ≡ true → AllByRecursion (IsStanding m) opens → AllByRecursion (IsStanding (m + 1)) (opens ++ o ∷ [])
-one_more_numbered m opens o is stands all =
-    every-snoc (IsStanding (m + 1)) opens o (still_numbered m opens all) (rw is (search rules), rw is (search rules), stands)
+-- a number that no open has
+new_apart : (m : ℕ) (o : Open) → o.number ≡ m + 1 → (opens : List Open) → AllByRecursion (IsStanding m) opens
+    → AllByRecursion (λ q. (o.number == q.number) ≡ false) opens
+new_apart m o is opens all = every-more (IsStanding m) (λ q. (o.number == q.number) ≡ false) (λ q low. above o.number q.number m is low.1) opens all
+  where
+    above : (n k m : ℕ) → n ≡ m + 1 → k ≤ m → (n == k) ≡ false
+    above n k m is low = search rules
+
+apart_more : (o : Open) (opens : List Open) → AllByRecursion (λ q. (o.number == q.number) ≡ false) opens → AreApart opens → AreApart (opens ++ o ∷ [])
+apart_more o [] new apart = (tt, record {})
+apart_more o (q ∷ qs) new apart = (every-snoc (IsAnother q) qs o apart.0 new.0, apart_more o qs new.1 apart.1)
+
+apart_kept : (p : Open → Bool) (o : Open) (opens : List Open) (t : Bool) → AllByRecursion (IsAnother o) opens → AreApart (filter p opens)
+    → AreApart (if t then o ∷ filter p opens else filter p opens)
+apart_kept p o opens true others apart = (every-filter (IsAnother o) p opens others, apart)
+apart_kept p o opens false others apart = apart
+
+pub apart_filter : (p : Open → Bool) (opens : List Open) → AreApart opens → AreApart (filter p opens)
+apart_filter p [] apart = record {}
+apart_filter p (o ∷ os) apart = apart_kept p o os (p o) apart.0 (apart_filter p os apart.1)
+
+one_more_numbered : (m : ℕ) (opens : List Open) (o : Open) → o.number ≡ m + 1 → o.connected ≡ true → o.durable ≡ false
+    → AllByRecursion (IsStanding m) opens × AreApart opens → AllByRecursion (IsStanding (m + 1)) (opens ++ o ∷ []) × AreApart (opens ++ o ∷ [])
+one_more_numbered m opens o is stands passing all = (
+  every-snoc (IsStanding (m + 1)) opens o (still_numbered m opens all.0) (rw is (search rules), rw is (search rules), stands, passing),
+  apart_more o opens (new_apart m o is opens all.0) all.1,
+)
 
 unless_numbers : (refusal : Option ℕ) (s : Share) (done : Rep × Share) → KeepsNumbers s done → KeepsNumbers s (unless refusal s done)
 unless_numbers None s done holds = holds
@@ -189,12 +214,12 @@ opened_numbers : (s : Share) (who : Who) (w : Wanted) (f : Found) → KeepsNumbe
 opened_numbers s who w f = by (overwrites w.disposition)
   where
     by : (t : Bool) → AreStanding s → AreStanding (with_open (open_with (s.opens_made + 1) who w f.node f.entry) (if t then record s { nodes = map (emptied f.node) s.nodes } else s))
-    by true all = one_more_numbered s.opens_made s.opens (open_with (s.opens_made + 1) who w f.node f.entry) refl refl all
-    by false all = one_more_numbered s.opens_made s.opens (open_with (s.opens_made + 1) who w f.node f.entry) refl refl all
+    by true all = one_more_numbered s.opens_made s.opens (open_with (s.opens_made + 1) who w f.node f.entry) refl refl refl all
+    by false all = one_more_numbered s.opens_made s.opens (open_with (s.opens_made + 1) who w f.node f.entry) refl refl refl all
 
 create_at_numbers : (s : Share) (who : Who) (w : Wanted) (at : Place) → KeepsNumbers s (create_at s who w at)
 create_at_numbers s who w NoPath = (λ all. all)
-create_at_numbers s who w (Missing d name) = unless_numbers (refusal_of_missing s w d) s (made s who w d name) (λ all. one_more_numbered s.opens_made s.opens (open_with (s.opens_made + 1) who w (s.nodes_made + 1) (s.entries_made + 1)) refl refl all)
+create_at_numbers s who w (Missing d name) = unless_numbers (refusal_of_missing s w d) s (made s who w d name) (λ all. one_more_numbered s.opens_made s.opens (open_with (s.opens_made + 1) who w (s.nodes_made + 1) (s.entries_made + 1)) refl refl refl all)
 create_at_numbers s who w (There f) = unless_numbers (refusal_of_there s w f) s (opened s who w f) (opened_numbers s who w f)
 
 create_numbers : (s : Share) (who : Who) (path : List ℕ) (w : Wanted) → KeepsNumbers s (create_of s who path w)
@@ -207,7 +232,10 @@ create_numbers s who path w = by (is_disposition w.disposition) (list_all is_nam
 
 close_numbers : (o : Option Open) (s : Share) → KeepsNumbers s (close_open o s)
 close_numbers None s = (λ all. all)
-close_numbers (Some o) s = (λ all. every-filter (IsStanding s.opens_made) (λ q. not (q.number == o.number)) s.opens all)
+close_numbers (Some o) s = (λ all. (
+  every-filter (IsStanding s.opens_made) (λ q. not (q.number == o.number)) s.opens all.0,
+  apart_filter (λ q. not (q.number == o.number)) s.opens all.1,
+))
 
 query_numbers : (o : Option Open) (s : Share) → KeepsNumbers s (query_open o s)
 query_numbers None s = (λ all. all)
@@ -237,3 +265,57 @@ step_numbers choice s who (req.Rename a b c) = (λ all. all)
 step_numbers choice s who (req.LinkTo a b c) = (λ all. all)
 step_numbers choice s who (req.Ack a b) = (λ all. all)
 step_numbers choice s who (req.Reclaim a b) = (λ all. all)
+
+-- a request's reply names its open by the number in both halves
+no_zero : (n : ℕ) → (n + 1 == 0) ≡ false
+no_zero n = search rules
+
+unless_names : (refusal : Option ℕ) (s : Share) (done : Rep × Share) → Names done.0 → Names (unless refusal s done).0
+unless_names None s done names = names
+unless_names (Some status) s done names = record {}
+
+create_at_names : (s : Share) (who : Who) (w : Wanted) (at : Place) → Names (create_at s who w at).0
+create_at_names s who w NoPath = record {}
+create_at_names s who w (Missing d name) = unless_names (refusal_of_missing s w d) s (made s who w d name) (refl, no_zero s.opens_made)
+create_at_names s who w (There f) = unless_names (refusal_of_there s w f) s (opened s who w f) (refl, no_zero s.opens_made)
+
+create_names : (s : Share) (who : Who) (path : List ℕ) (w : Wanted) → Names (create_of s who path w).0
+create_names s who path w = by (is_disposition w.disposition) (list_all is_name (components path))
+  where
+    by : (t u : Bool) → Names (if not t then refused 0xC000000D s else if not u then refused 0xC0000033 s else create_at s who w (place_of s (components path))).0
+    by false u = record {}
+    by true false = record {}
+    by true true = create_at_names s who w (place_of s (components path))
+
+close_names : (o : Option Open) (s : Share) → Names (close_open o s).0
+close_names None s = record {}
+close_names (Some o) s = record {}
+
+query_names : (o : Option Open) (s : Share) → Names (query_open o s).0
+query_names None s = record {}
+query_names (Some o) s = record {}
+
+pub step_names : (choice : Option Grant) (s : Share) (who : Who) (r : Req) → Names (step_of choice s who r).0
+step_names choice s who (req.Create path access share disposition options attributes lease durable) = create_names s who path record {
+  access = access;
+  share = share;
+  disposition = disposition;
+  options = options;
+  attributes = attributes;
+}
+step_names choice s who (req.Close fid) = close_names (open_of s.opens who fid) s
+step_names choice s who (req.Query fid) = query_names (open_of s.opens who fid) s
+step_names choice s who (req.Flush a) = record {}
+step_names choice s who (req.Room a) = record {}
+step_names choice s who (req.Read a b c) = record {}
+step_names choice s who (req.Write a b c) = record {}
+step_names choice s who (req.Lock a b c d) = record {}
+step_names choice s who (req.Unlock a b c) = record {}
+step_names choice s who (req.List a b c) = record {}
+step_names choice s who (req.SetBasic a b) = record {}
+step_names choice s who (req.SetEnd a b) = record {}
+step_names choice s who (req.SetPending a b) = record {}
+step_names choice s who (req.Rename a b c) = record {}
+step_names choice s who (req.LinkTo a b c) = record {}
+step_names choice s who (req.Ack a b) = record {}
+step_names choice s who (req.Reclaim a b) = record {}

@@ -25,7 +25,7 @@ use Rattle.fs_plain.specs.Taken.{plain_wish, with_opened, is_wished, after_wish_
 use Rattle.fs_plain.specs.View.{Item, Flight, View, same_flying, item_with, flight_with, flights_but, left, is_of_call, is_owned_by, IsFor, IsOf, Sound, calm, waits, reply_for, reply_of_flying, rest_after, opened_after, ran}
 use Rattle.fs_plain.specs.Related.{Related, bare, IsOther, AreDistinct}
 use Rattle.fs_plain.proofs.PlainTree.{bare_of, step_bare}
-use Rattle.fs_plain.proofs.Steps.{Connection, connection, step_counts, step_leaves, step_numbers}
+use Rattle.fs_plain.proofs.Steps.{step_names, Connection, connection, step_counts, step_leaves, step_numbers}
 use Rattle.fs_plain.proofs.Acts.{pairs_counted}
 use Rattle.fs_plain.proofs.Lookups.{waiting_but, no_reply, left_interim, left_reply, left_aside, sound_interim, sound_reply, sound_aside, replies_interim, replies_aside, reply_there, reply_elsewhere}
 
@@ -245,6 +245,7 @@ aside_taken s r v f p old found none unowned =
         owners = old.owners;
         belongs = old.belongs;
         calls = old.calls;
+        named = old.named;
         fresh = old.fresh;
       },
     )
@@ -277,6 +278,7 @@ pend_related s r v f old found =
       owners = old.owners;
       belongs = old.belongs;
       calls = old.calls;
+      named = old.named;
       fresh = old.fresh;
     }
   where
@@ -380,7 +382,7 @@ owned_taken s r v f p old n i o wish rest found owner item flying asks owned num
         paid = old.paid;
         in_hand = old.in_hand;
         sound = subst (Sound v.flights) joins (sound_reply f.mid f.message done.0 v.flights coming old.sound
-            (subst (IsFor true f.message) (sym found) (refl, ap is_of_call owner)));
+            (step_names (choice_now s.grants) s us request, subst (IsFor true f.message) (sym found) (refl, ap is_of_call owner)));
         sent = behind f.mid done.0 (is_creating request) (sent_but f.mid done.1.sent) (left v.flights coming)
             (ap (λ (k : Connection). map calm (sent_but f.mid k.sent)) leaves.0 ∙ waiting_but f.mid s.sent (left v.flights coming) old.sent)
             ∙ ap (map waits) (sym (left_reply f.mid f.message done.0 v.flights coming) ∙ ap (left v.flights) joins);
@@ -391,6 +393,7 @@ owned_taken s r v f p old n i o wish rest found owner item flying asks owned num
         owners = old.owners;
         belongs = old.belongs;
         calls = old.calls;
+        named = old.named;
         fresh = old.fresh;
       }),
     )

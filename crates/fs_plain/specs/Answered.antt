@@ -46,11 +46,15 @@ abbrev pub is_number : ℕ → Answer → Bool
 is_number n (answer.Err number None) = number.0 == n
 is_number n a = false
 
+-- the run ended by this status, or in its place by want of memory or a full output while its last answers were made and printed
+abbrev pub ended_by : ℕ → ℕ → Bool
+ended_by cause status = status == cause || status == 3 || status == 8
+
 -- an answer that is not compared: ENOMEM of a call that sent nothing, EPROTO where the run ended by what the server sent, and
 -- EHOSTDOWN where it ended by lost connections
 abbrev pub is_not_compared : Run → Running → Answer → Bool
 is_not_compared run c a =
-    (not c.announced && is_number 12 a) || (run.status == 5 && is_number 71 a) || (run.status == 6 && is_number 112 a)
+    (not c.announced && is_number 12 a) || (ended_by 5 run.status && is_number 71 a) || (ended_by 6 run.status && is_number 112 a)
 
 -- the answer is the program's
 abbrev pub compared : Option Answer → Answer → Option Difference

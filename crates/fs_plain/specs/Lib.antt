@@ -14,4 +14,5 @@ pub mod Prompt
 pub mod Thrift
 pub mod View
 pub mod Related
+pub mod Sends
 pub mod Moves

@@ -1,18 +1,18 @@
 -- What a story so far has to keep, whatever the share is going to choose: no difference, and something that holds of the two shares.
 -- And how a function over a link says that it leads from one such state to another.
-use Rattle.std.specs.Prelude.{◌≡◌, ℕ, Bool, List, [], ◌∷◌, Option, None}
+use Rattle.std.specs.Prelude.{◌≡◌, ℕ, Bool, true, List, [], ◌∷◌, map, Option, Some, None}
 use Rattle.smb_link.specs.Story.{told}
 use Rattle.fs_types.specs.declared.options.Options.{Options}
-use Rattle.fs_plain.specs.View.{View}
+use Rattle.fs_plain.specs.View.{Item, View}
 use Rattle.fs_plain.specs.Related.{Related}
 use Rattle.share_spec.specs.declared.connection.Grant.{Grant}
 use Rattle.share_spec.specs.declared.share.Share.{Share}
 use Rattle.share_spec.specs.State.{fresh_share}
 use Rattle.smb_link.specs.declared.event.Event.{Event}
 use Rattle.fs_plain.specs.World.{happens}
-use Rattle.fs_plain.specs.Honest.{HonestFrom}
+use Rattle.fs_plain.specs.Honest.{HonestFrom, IsHonest}
 use Rattle.fs_plain.specs.Replay.{Run, Replay, at_first}
-use Rattle.fs_plain.specs.Differences.{next, judge}
+use Rattle.fs_plain.specs.Differences.{next, judge, difference}
 use Rattle.fs_plain.specs.CleanEnd.{share_after, replay_after}
 
 -- none of these events makes a difference
@@ -47,3 +47,37 @@ pub record Going (options : Options) (seed : List ℕ) (begin now : Option (List
 -- what was done leads from one view to another, whenever the story began
 pub record Leads (options : Options) (seed : List ℕ) (v w : View) (old new : Option (List Event)) : Type 0 where
   pub on : (begin : Option (List Event)) → Going options seed begin old v → Going options seed begin new w
+
+-- the numbers of the calls that were begun and not answered
+abbrev pub numbers_of : View → List ℕ
+numbers_of v = map (λ (i : Item). i.number) v.items
+
+-- the two shares are related to some view in which the calls with these numbers are unanswered
+abbrev pub Remains : List ℕ → Share → Replay → Type 0
+Remains numbers s r = (v : View) × Related s r v × (numbers_of v ≡ numbers)
+
+-- the client goes on no longer: since the beginning of the story these events came, and of the calls no more is known than their numbers
+pub record Gone (options : Options) (seed : List ℕ) (numbers : List ℕ) (begin now : Option (List Event)) : Type 0 where
+  pub came : List Event
+  pub story : now ≡ told begin came
+  pub holds : (status room : ℕ) (fold : Bool) → Holds (run_of options seed status) room fold (Remains numbers) came
+
+-- what was done leads from a view to the end of a run, whenever the story began
+pub record Leaves (options : Options) (seed : List ℕ) (v : View) (old new : Option (List Event)) : Type 0 where
+  pub on : (begin : Option (List Event)) → Going options seed begin old v → Gone options seed (numbers_of v) begin new
+
+-- the story is over: these events came, and they make no difference where the run ended by such a status
+pub record Over (options : Options) (seed : List ℕ) (ends : ℕ → Bool) (begin now : Option (List Event)) : Type 0 where
+  pub came : List Event
+  pub story : now ≡ told begin came
+  pub holds : (status room : ℕ) (fold : Bool) → ends status ≡ true → Holds (run_of options seed status) room fold (λ s r. Unit {0}) came
+
+-- what was done leads from the end of a run, with these calls unanswered, to the end of its story
+pub record Closes (options : Options) (seed : List ℕ) (numbers : List ℕ) (ends : ℕ → Bool) (old new : Option (List Event)) : Type 0 where
+  pub on : (begin : Option (List Event)) → Gone options seed numbers begin old → Over options seed ends begin new
+
+-- every answer is that of the plain client: where the whole story is told and is one that an honest share tells, the plain client has
+-- the same answers, and so have the others
+abbrev pub PlainAnswers : Options → List ℕ → ℕ → Option (List Event) → Type 0
+PlainAnswers options seed status story =
+    (came : List Event) → story ≡ Some came → (room : ℕ) (fold : Bool) → IsHonest room fold came → difference (run_of options seed status) room fold came ≡ None

@@ -4,6 +4,7 @@ use Rattle.std.specs.List.{AllByRecursion}
 use Rattle.share_spec.specs.declared.connection.Owed.{Owed}
 use Rattle.share_spec.specs.declared.opens.Open.{Open}
 use Rattle.share_spec.specs.declared.share.Share.{Share}
+use Rattle.share_spec.specs.Reply.{fid_of}
 use Rattle.fs_plain.specs.Replies.{Pays}
 use Rattle.fs_plain.specs.Replay.{Replay, Owner, plain_of, owner_of}
 use Rattle.fs_plain.specs.View.{Item, View, same_flying, flight_with, left, Sound, calm, waits, ran, IsOwned, Belongs}
@@ -12,12 +13,20 @@ use Rattle.fs_plain.specs.View.{Item, View, same_flying, flight_with, left, Soun
 abbrev pub bare : Share → Share
 bare s = record s { leases = []; connected = false; sent = []; owed = []; held = []; grants = [] }
 
--- an open has one of the numbers that were given, and is connected
+-- an open has one of the numbers that were given, is connected, and is not durable
 abbrev pub IsStanding : ℕ → Open → Type 0
-IsStanding made o = (1 ≤ o.number) × (o.number ≤ made) × (o.connected ≡ true)
+IsStanding made o = (1 ≤ o.number) × (o.number ≤ made) × (o.connected ≡ true) × (o.durable ≡ false)
+
+-- no two opens have one number
+abbrev pub IsAnother : Open → Open → Type 0
+IsAnother o q = (q.number == o.number) ≡ false
+
+abbrev pub AreApart : List Open → Type 0
+AreApart [] = Unit {0}
+AreApart (o ∷ os) = AllByRecursion (IsAnother o) os × AreApart os
 
 abbrev pub AreStanding : Share → Type 0
-AreStanding s = AllByRecursion (IsStanding s.opens_made) s.opens
+AreStanding s = AllByRecursion (IsStanding s.opens_made) s.opens × AreApart s.opens
 
 -- each open of a number that was given stands for itself, and no other number stands for an open
 pub record AreSame (pairs : List (ℕ × ℕ)) (made : ℕ) : Type 0 where
@@ -39,6 +48,10 @@ IsOther i j = ((j.number == i.number) ≡ false) × (same_flying i.flying j.flyi
 abbrev pub AreDistinct : List Item → Type 0
 AreDistinct [] = Unit {0}
 AreDistinct (i ∷ items) = AllByRecursion (IsOther i) items × AreDistinct items
+
+-- a call has the file ids of its opens: each is the open's number in both halves
+abbrev pub IsNamed : Item → Type 0
+IsNamed i = i.fids ≡ map fid_of i.opened
 
 -- no request had this id
 pub record IsFresh (m : ℕ) (owners : List Owner) (v : View) : Type 0 where
@@ -67,4 +80,5 @@ pub record Related (s : Share) (r : Replay) (v : View) : Type 0 where
   pub owners : AllByRecursion (IsOwned r.owners) v.flights
   pub belongs : AllByRecursion (Belongs v.items) v.flights
   pub calls : AreDistinct v.items
+  pub named : AllByRecursion IsNamed v.items
   pub fresh : (m : ℕ) → v.next ≤ m → IsFresh m r.owners v

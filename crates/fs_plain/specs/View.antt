@@ -1,5 +1,6 @@
 -- What the client itself knows while it runs: its calls, its requests in flight, and what it got and did not look at.
 use Rattle.std.specs.Prelude.{◌≡◌, ℕ, ◌==◌, ◌+◌, Bool, true, false, not, if◌then◌else◌, List, [], ◌∷◌, ◌++◌, map, filter, Option, Some, None, Result, Ok, Err}
+use Rattle.smb_base.specs.declared.names.Fid.{Fid}
 use Rattle.smb_base.specs.declared.names.Mid.{Mid}
 use Rattle.smb_chain.specs.declared.parts.BadNext.{BadNext}
 use Rattle.fs_types.specs.declared.call.Call.{Call}
@@ -8,6 +9,9 @@ use Rattle.share_spec.specs.declared.connection.Sent.{Sent}
 use Rattle.share_spec.specs.declared.connection.Owed.{Owed}
 use Rattle.share_spec.specs.declared.connection.Owed.TheVariants as owed
 use Rattle.share_spec.specs.declared.request.Rep.{Rep}
+use Rattle.share_spec.specs.declared.request.RepBody.{RepBody}
+use Rattle.share_spec.specs.declared.request.RepBody.TheVariants as body
+use Rattle.share_spec.specs.Reply.{fid_of}
 use Rattle.share_spec.specs.PlainShare.{shown}
 use Rattle.smb_link.specs.Program.{Program, Ask, Look, Say}
 use Rattle.fs_plain.specs.Requests.{Asked, asked}
@@ -15,7 +19,8 @@ use Rattle.fs_plain.specs.Replay.{Running, Announced, Owner, owner_of}
 use Rattle.fs_plain.specs.Taken.{plain_wish, with_opened}
 
 -- a call that was begun and not answered: its line, its lane, what it is, whether a frame was announced for it, what is left of its
--- program by the replies that were looked at, the opens that it made, and its request in flight
+-- program by the replies that were looked at, the opens that it made, their file ids as these replies gave them, and its request in
+-- flight
 pub record Item : Type 0 where
   pub number : ℕ
   pub lane : ℕ
@@ -23,6 +28,7 @@ pub record Item : Type 0 where
   pub announced : Bool
   pub rest : Program
   pub opened : List ℕ
+  pub fids : List Fid
   pub flying : Option Mid
 
 -- a request that was sent on this connection and whose reply was not looked at: its id, the message, and the call that it is of; none
@@ -84,11 +90,20 @@ abbrev pub IsOf : List ℕ → Option Flight → Type 0
 IsOf request None = ⊥
 IsOf request (Some f) = f.message ≡ request
 
+-- a reply that gives an open names it by its number in both halves
+abbrev pub NamesIn : RepBody → Type 0
+NamesIn (body.Opened fid action size attributes lease durable) = (fid ≡ fid_of fid.persistent) × ((fid.persistent == 0) ≡ false)
+NamesIn other = Unit {0}
+
+abbrev pub Names : Rep → Type 0
+Names reply = NamesIn reply.body
+
 -- what is coming is for flights, each with one final reply and with nothing after that; no notice comes, since there is no lease
 abbrev pub Sound : List Flight → List Owed → Type 0
 Sound flights [] = Unit {0}
 Sound flights (owed.Interim mid request ∷ coming) = IsOf request (flight_with mid flights) × Sound flights coming
-Sound flights (owed.Reply mid request reply ∷ coming) = IsFor true request (flight_with mid flights) × Sound (flights_but mid flights) coming
+Sound flights (owed.Reply mid request reply ∷ coming) =
+    (Names reply × IsFor true request (flight_with mid flights)) × Sound (flights_but mid flights) coming
 Sound flights (owed.Aside mid request ∷ coming) = IsFor false request (flight_with mid flights) × Sound (flights_but mid flights) coming
 Sound flights (owed.Notice key state ∷ coming) = ⊥
 
@@ -166,6 +181,7 @@ new_item number lane call program = record {
   announced = false;
   rest = program;
   opened = [];
+  fids = [];
   flying = None;
 }
 
@@ -220,11 +236,22 @@ with_hand messages v = record v { hand = messages }
 abbrev pub without_flight : Mid → View → View
 without_flight mid v = record v { flights = flights_but mid v.flights }
 
+abbrev pub fids_with : RepBody → List Fid → List Fid
+fids_with (body.Opened fid action size attributes lease durable) fids = fids ++ fid ∷ []
+fids_with other fids = fids
+
+abbrev pub fids_after : Rep → List Fid → List Fid
+fids_after reply fids = fids_with reply.body fids
+
 abbrev pub land : Mid → Rep → Item → Item
 land mid reply i =
     if same_flying (Some mid) i.flying
-    then record i { rest = rest_after (Some reply) i.rest; opened = opened_after (Some reply) i.opened; flying = None }
+    then record i { rest = rest_after (Some reply) i.rest; opened = opened_after (Some reply) i.opened; fids = fids_after reply i.fids; flying = None }
     else i
 
 abbrev pub with_reply : Mid → Rep → View → View
 with_reply mid reply v = record v { flights = flights_but mid v.flights; items = map (land mid reply) v.items }
+
+-- before the first event the client knows of nothing
+abbrev pub no_view : View
+no_view = record { items = []; flights = []; hand = []; held = []; announced = None; begun = []; connected = false; next = 0 }
