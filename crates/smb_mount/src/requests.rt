@@ -1,7 +1,7 @@
 //! The requests of a mount and of its end.
 
-ghost use Rattle.std.specs.Prelude.{◌≡◌, ◌^◌, ◌<◌, ◌≤◌, ◌*◌, IfOk, length};
-ghost use Rattle.smb_mount.specs.Requests.{charge_of, unit_bytes, negotiate, session_setup, tree_connect, tree_disconnect, logoff};
+ghost use Rattle.std.specs.Prelude.{◌≡◌, ◌^◌, ◌<◌, ◌≤◌, ◌*◌, [], IfOk, length};
+ghost use Rattle.smb_mount.specs.Requests.{charge_of, unit_bytes, negotiate, session_setup, tree_connect, tree_disconnect, logoff, IsWritten, negotiate_fields, dialects, session_fields, tree_fields, no_fields};
 
 use crate::facts::Facts;
 use smb_base::{Bytes, NoMemory};
@@ -43,7 +43,8 @@ fn charge(caps: ServerCaps) -> u16
 
 /// NEGOTIATE, which offers SMB 2.1 alone.
 pub fn negotiate(alloc: Global, guid: [u8; 16]) -> Result<Request, NoMemory>
-    ensures { IfOk result (λ request. request ≡ negotiate guid) }
+    ensures value { IfOk result (λ request. request ≡ negotiate guid) }
+    ensures written { IfOk result (IsWritten 36 (negotiate_fields guid) dialects) }
 {
     let mut body = Vec::new(alloc);
     let fields = NegotiateRequest {
@@ -70,7 +71,8 @@ pub fn session_setup(
     token: &[u8],
 ) -> Result<Request, NoMemory>
     requires { length token.now < 2 ^ 16 }
-    ensures { IfOk result (λ request. request ≡ session_setup caps session previous token.now) }
+    ensures value { IfOk result (λ request. request ≡ session_setup caps session previous token.now) }
+    ensures written { IfOk result (IsWritten 25 (session_fields previous token.now) token.now) }
 {
     let mut body = Vec::new(alloc);
     let fields = SessionSetupRequest {
@@ -96,7 +98,8 @@ pub fn tree_connect(
     path: &[u16],
 ) -> Result<Request, NoMemory>
     requires { length path.now ≤ 32767 }
-    ensures { IfOk result (λ request. request ≡ tree_connect caps session path.now) }
+    ensures value { IfOk result (λ request. request ≡ tree_connect caps session path.now) }
+    ensures written { IfOk result (IsWritten 9 (tree_fields (unit_bytes path.now)) (unit_bytes path.now)) }
 {
     let path = bytes_of_units(alloc, path)?;
     let mut body = Vec::new(alloc);
@@ -126,7 +129,8 @@ fn bytes_of_units(alloc: Global, units: &[u16]) -> Result<Vec<u8>, NoMemory>
 
 /// TREE_DISCONNECT of this mount's tree.
 pub fn tree_disconnect(alloc: Global, facts: &Facts) -> Result<Request, NoMemory>
-    ensures { IfOk result (λ request. request ≡ tree_disconnect facts.now) }
+    ensures value { IfOk result (λ request. request ≡ tree_disconnect facts.now) }
+    ensures written { IfOk result (IsWritten 4 no_fields []) }
 {
     let mut body = Vec::new(alloc);
     write_empty(&mut body, &Empty)?;
@@ -142,7 +146,8 @@ pub fn tree_disconnect(alloc: Global, facts: &Facts) -> Result<Request, NoMemory
 
 /// LOGOFF of this mount's session.
 pub fn logoff(alloc: Global, facts: &Facts) -> Result<Request, NoMemory>
-    ensures { IfOk result (λ request. request ≡ logoff facts.now) }
+    ensures value { IfOk result (λ request. request ≡ logoff facts.now) }
+    ensures written { IfOk result (IsWritten 4 no_fields []) }
 {
     let mut body = Vec::new(alloc);
     write_empty(&mut body, &Empty)?;

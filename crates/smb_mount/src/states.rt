@@ -1,9 +1,10 @@
 //! The states of a mount.
 
 ghost use Rattle.std.specs.Prelude.{◌≡◌, ◌≤◌, ◌∷◌, [], IfOk, IsOk, length};
+ghost use Rattle.std.specs.List.{AllByRecursion};
 ghost use Rattle.smb_head.specs.Header.{head_of};
 ghost use Rattle.smb_mount.specs.Tokens.{negotiate_token, authenticate_token};
-ghost use Rattle.smb_mount.specs.Requests.{negotiate, session_setup, tree_connect, tree_disconnect, logoff};
+ghost use Rattle.smb_mount.specs.Requests.{negotiate, session_setup, tree_connect, tree_disconnect, logoff, unit_bytes, IsWritten, negotiate_fields, dialects, session_fields, tree_fields, no_fields};
 ghost use Rattle.smb_mount.specs.Verdicts.{by_body, greeted, challenged, at_once, answered, joined, NegotiateEnds, SetUpEnds, SessionEnds, TreeEnds};
 
 use crate::facts::{Facts, Server};
@@ -73,7 +74,8 @@ impl New {
     ///
     /// Want of memory alone.
     pub fn request(&self, alloc: Global) -> Result<Request, NoMemory>
-        ensures { IfOk result (λ request. request ≡ negotiate self.now.guid) }
+        ensures value { IfOk result (λ request. request ≡ negotiate self.now.guid) }
+        ensures written { IfOk result (IsWritten 36 (negotiate_fields self.now.guid) dialects) }
     {
         negotiate(alloc, self.guid)
     }
@@ -150,8 +152,9 @@ impl Negotiated {
     ///
     /// Want of memory alone.
     pub fn request(&self, alloc: Global) -> Result<Request, NoMemory>
-        ensures { IfOk result (λ request.
+        ensures value { IfOk result (λ request.
             request ≡ session_setup self.now.server.caps 0 self.now.previous negotiate_token) }
+        ensures written { IfOk result (IsWritten 25 (session_fields self.now.previous negotiate_token) negotiate_token) }
     {
         session_setup(alloc, self.server.caps, 0, self.previous, &NEGOTIATE_TOKEN)
     }
@@ -244,8 +247,9 @@ impl Challenged {
     ///
     /// Want of memory alone.
     pub fn request(&self, alloc: Global) -> Result<Request, NoMemory>
-        ensures { IfOk result (λ request.
+        ensures value { IfOk result (λ request.
             request ≡ session_setup self.now.server.caps self.now.session self.now.previous authenticate_token) }
+        ensures written { IfOk result (IsWritten 25 (session_fields self.now.previous authenticate_token) authenticate_token) }
     {
         session_setup(
             alloc,
@@ -321,8 +325,9 @@ impl Authenticated {
     ///
     /// Want of memory alone.
     pub fn request(&self, alloc: Global) -> Result<Request, NoMemory>
-        ensures { IfOk result (λ request.
+        ensures value { IfOk result (λ request.
             request ≡ tree_connect self.now.server.caps self.now.session self.now.path) }
+        ensures written { IfOk result (IsWritten 9 (tree_fields (unit_bytes self.now.path)) (unit_bytes self.now.path)) }
     {
         tree_connect(alloc, self.server.caps, self.session, self.path.as_slice())
     }
@@ -402,7 +407,8 @@ impl Mounted {
     ///
     /// Want of memory alone.
     pub fn leave(self, alloc: Global) -> Result<[Request; 2], NoMemory>
-        ensures { IfOk result (λ requests. requests ≡ tree_disconnect self ∷ logoff self ∷ []) }
+        ensures value { IfOk result (λ requests. requests ≡ tree_disconnect self ∷ logoff self ∷ []) }
+        ensures written { IfOk result (AllByRecursion (IsWritten 4 no_fields [])) }
     {
         Ok([
             tree_disconnect(alloc, &self.facts)?,
