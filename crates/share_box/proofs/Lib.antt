@@ -1,3 +1,8 @@
+pub mod SameShare
+pub mod Streams
+pub mod Choices
+pub mod Mirrors
+pub mod Telling
 pub mod Written
 pub mod Units
 pub mod Steps
@@ -6,3 +11,11 @@ pub mod Going
 pub mod Connecting
 pub mod Wire
 pub mod FrameParts
+pub mod Lent
+pub mod Reading
+pub mod Shapes
+pub mod Asking
+pub mod Heard
+pub mod Paying
+pub mod Grants
+pub mod Proper

@@ -27,6 +27,8 @@ turns_in (schedule.List turns) = turns
 -- a box whose share has the root alone
 abbrev pub fresh_box : ℕ → Bool → ℕ → List Turn → State
 fresh_box room fold credits turns = record {
+  room = room;
+  fold = fold;
   share = fresh_share room fold;
   waiting = [];
   turns = turns;

@@ -1,7 +1,10 @@
 pub mod Schedule
 pub mod Asked
 pub mod Bodies
+pub mod Again
 pub mod Answers
 pub mod Serving
+pub mod Paid
 pub mod Turns
 pub mod Calls
+pub mod Truth

@@ -1,6 +1,8 @@
 //! Replies, each as a frame of its own.
 
 ghost use Rattle.std.specs.Prelude.{◌≡◌, IfOk};
+ghost use Rattle.smb_head.specs.Header.{head_of};
+ghost use Rattle.share_box.specs.Paid.{IsReplyTo};
 ghost use Rattle.share_box.specs.Answers.{is_first_message, said_session, said_aside, session_of, tree_of, reply_head, reply_of};
 
 use crate::bodies::{Said, put_body, status_of};
@@ -103,7 +105,10 @@ pub(crate) fn reply(
     message: &[u8],
     said: &Said,
 ) -> Result<Bytes, NoMemory>
-    ensures { IfOk result (λ f. f ≡ reply_of credits message.now said.now) }
+    ensures exact { IfOk result (λ f. f ≡ reply_of credits message.now said.now) }
+
+    // It is one frame of one message, whose header and body are read again.
+    ensures again { IfOk result (λ f. IsReplyTo (head_of message.now) credits said.now f) }
 {
     let Ok(head) = read_head(message) else {
         return Ok(Bytes::new(alloc));

@@ -1,10 +1,11 @@
 //! The bodies of replies.
 
 ghost use Rattle.std.specs.Prelude.{◌≡◌, ◌++◌, ◌≤◌, [], OnOk, length};
-ghost use Rattle.smb_field.specs.Body.{spelling};
+ghost use Rattle.smb_field.specs.Body.{spelling, IsReadAgain};
 ghost use Rattle.smb_field.specs.Structure.{spelling_in};
 ghost use Rattle.smb_info.specs.Attributes.{all as fields_of_all};
 ghost use Rattle.share_spec.specs.Reply.{attributes_of};
+ghost use Rattle.share_box.specs.Again.{IsInfoAgain, IsDoneAgain, IsRepAgain, IsBodyAgain};
 ghost use Rattle.share_box.specs.Bodies.{negotiated, session, tree, error, opened, closed, all, buffer, body_done, body_of_rep, body_of, status_of};
 
 use share_spec::{Rep, RepBody};
@@ -76,10 +77,11 @@ pub(crate) fn status_of(said: &Said) -> Status
 }
 
 // Appends the body of a reply. For want of memory nothing is changed.
-#[tactic(auto, unfolding(crate::specs::Bodies::body_of))]
+#[tactic(auto, unfolding(crate::specs::Bodies::body_of, crate::specs::Again::IsBodyAgain))]
 pub(crate) fn put_body(alloc: Global, out: &mut Vec<u8>, said: &Said) -> Result<(), NoMemory>
     ensures ok { OnOk result (out.new.items ≡ out.old.items ++ body_of said.now) }
     ensures len { OnOk result (length (body_of said.now) ≤ 1000) }
+    ensures again { OnOk result (IsBodyAgain said.now) }
 {
     match said {
         Said::Negotiated => put_negotiated(out),
@@ -94,6 +96,7 @@ pub(crate) fn put_body(alloc: Global, out: &mut Vec<u8>, said: &Said) -> Result<
 fn put_negotiated(out: &mut Vec<u8>) -> Result<(), NoMemory>
     ensures ok { OnOk result (out.new.items ≡ out.old.items ++ spelling 65 negotiated []) }
     ensures len { OnOk result (length (spelling 65 negotiated []) ≤ 1000) }
+    ensures again { OnOk result (IsReadAgain 65 negotiated []) }
 {
     write_negotiate_reply(
         out,
@@ -116,6 +119,7 @@ fn put_session(out: &mut Vec<u8>, session_flags: u16, buffer: &[u8]) -> Result<(
     requires { length buffer.now ≤ 56 }
     ensures ok { OnOk result (out.new.items ≡ out.old.items ++ spelling 9 (session session_flags (length buffer.now)) buffer.now) }
     ensures len { OnOk result (length (spelling 9 (session session_flags (length buffer.now)) buffer.now) ≤ 1000) }
+    ensures again { OnOk result (IsReadAgain 9 (session session_flags (length buffer.now)) buffer.now) }
 {
     write_session_setup_reply(
         out,
@@ -129,6 +133,7 @@ fn put_session(out: &mut Vec<u8>, session_flags: u16, buffer: &[u8]) -> Result<(
 fn put_tree(out: &mut Vec<u8>) -> Result<(), NoMemory>
     ensures ok { OnOk result (out.new.items ≡ out.old.items ++ spelling 16 tree []) }
     ensures len { OnOk result (length (spelling 16 tree []) ≤ 1000) }
+    ensures again { OnOk result (IsReadAgain 16 tree []) }
 {
     write_tree_connect_reply(
         out,
@@ -145,6 +150,7 @@ fn put_tree(out: &mut Vec<u8>) -> Result<(), NoMemory>
 fn put_rep(alloc: Global, out: &mut Vec<u8>, rep: &Rep) -> Result<(), NoMemory>
     ensures ok { OnOk result (out.new.items ≡ out.old.items ++ body_of_rep rep.now) }
     ensures len { OnOk result (length (body_of_rep rep.now) ≤ 1000) }
+    ensures again { OnOk result (IsRepAgain rep.now) }
 {
     if rep.status.0 == 0 {
         put_done(alloc, out, &rep.body)
@@ -157,6 +163,7 @@ fn put_rep(alloc: Global, out: &mut Vec<u8>, rep: &Rep) -> Result<(), NoMemory>
 fn put_done(alloc: Global, out: &mut Vec<u8>, body: &RepBody) -> Result<(), NoMemory>
     ensures ok { OnOk result (out.new.items ≡ out.old.items ++ body_done body.now) }
     ensures len { OnOk result (length (body_done body.now) ≤ 1000) }
+    ensures again { OnOk result (IsDoneAgain body.now) }
 {
     match body {
         RepBody::Opened {
@@ -184,6 +191,7 @@ fn put_done(alloc: Global, out: &mut Vec<u8>, body: &RepBody) -> Result<(), NoMe
 fn put_error(out: &mut Vec<u8>) -> Result<(), NoMemory>
     ensures ok { OnOk result (out.new.items ≡ out.old.items ++ spelling 9 error []) }
     ensures len { OnOk result (length (spelling 9 error []) ≤ 1000) }
+    ensures again { OnOk result (IsReadAgain 9 error []) }
 {
     write_error_reply(
         out,
@@ -203,6 +211,7 @@ fn put_opened(
 ) -> Result<(), NoMemory>
     ensures ok { OnOk result (out.new.items ≡ out.old.items ++ spelling 89 (opened file_id action size attributes) []) }
     ensures len { OnOk result (length (spelling 89 (opened file_id action size attributes) []) ≤ 1000) }
+    ensures again { OnOk result (IsReadAgain 89 (opened file_id action size attributes) []) }
 {
     write_create_reply(
         out,
@@ -223,6 +232,7 @@ fn put_opened(
 fn put_closed(out: &mut Vec<u8>) -> Result<(), NoMemory>
     ensures ok { OnOk result (out.new.items ≡ out.old.items ++ spelling 60 closed []) }
     ensures len { OnOk result (length (spelling 60 closed []) ≤ 1000) }
+    ensures again { OnOk result (IsReadAgain 60 closed []) }
 {
     write_close_reply(
         out,
@@ -276,6 +286,7 @@ fn info_of(dir: bool, size: u64, read_only: bool, links: u32, pending: bool, num
 fn put_info(alloc: Global, out: &mut Vec<u8>, all: &All) -> Result<(), NoMemory>
     ensures ok { OnOk result (out.new.items ≡ out.old.items ++ spelling 9 (buffer 100) (spelling_in (fields_of_all all.now) [])) }
     ensures len { OnOk result (length (spelling 9 (buffer 100) (spelling_in (fields_of_all all.now) [])) ≤ 1000) }
+    ensures again { OnOk result (IsInfoAgain (fields_of_all all.now)) }
 {
     let mut info = Vec::new(alloc);
     write_all(&mut info, all)?;

@@ -4,7 +4,9 @@ ghost use Rattle.std.specs.Prelude.{◌≡◌, ◌≤◌, ◌<◌, ◌&&◌, ◌
 ghost use Rattle.smb_link.specs.declared.faults.Got.TheVariants as got;
 ghost use Rattle.smb_link.specs.Count.{counted};
 ghost use Rattle.smb_link.specs.Story.{is_failed, connect_cuts, StandsAfterConnect, Gains, GainsByConnect, send_events, receive_events, mark_events, is_closed, is_quiet, IfBytes};
+ghost use Rattle.fs_plain.specs.Honest.{IsHonest};
 ghost use Rattle.share_box.specs.Calls.{fresh_box, turns_in, ended, marked, Connects, Sends, Gives, Receives, is_want, is_want_of_bytes, as_link, as_got, Goes, GoesOn, GoesToConnect, GoesToJoin, Tries, Takes, left};
+ghost use Rattle.share_box.specs.Truth.{Keeps};
 ghost use Rattle.share_box.specs.Turns.{is_possible, is_cut};
 
 use crate::schedule::{Schedule, Turn};
@@ -17,7 +19,7 @@ use smb_link::{EventList, Got, Link, LinkFail, Mark};
 use std::alloc::Global;
 use std::marker::Model;
 
-/// A link in memory, behind which a share takes turns. It tells its story.
+/// A link in memory, behind which a share takes turns. It tells its story, which is one that an honest share tells.
 ///
 /// Once a call answered `NoMemory`, each later call answers so and changes nothing.
 #[derive(Drop)]
@@ -28,10 +30,13 @@ pub struct BoxLink {
 
 impl Model for BoxLink {
     ghost use Rattle.share_box.specs.declared.state.State.{State};
+    ghost use Rattle.share_box.specs.Truth.{IsFaithful};
 
     ghost Value = { State };
 
     ghost view = { λ b. b.state };
+
+    ghost invariant = { λ b. IsFaithful b.state };
 }
 
 impl BoxLink {
@@ -51,6 +56,8 @@ impl BoxLink {
         Ok(BoxLink {
             alloc,
             state: State {
+                room,
+                fold,
                 share,
                 waiting: Waiting::new(alloc),
                 turns: Coming::of(turns),
@@ -64,9 +71,10 @@ impl BoxLink {
         })
     }
 
-    /// Lends the story so far.
+    /// Lends the story so far. It is one that an honest share with this room and this folding of names tells.
     pub fn story(&self) -> &EventList
-        ensures { result.now ≡ self.now.story }
+        ensures exact { result.now ≡ self.now.story }
+        ensures honest { IsHonest self.now.room self.now.fold self.now.story }
     {
         &self.state.story
     }
@@ -76,6 +84,7 @@ impl BoxLink {
 fn leave(alloc: Global, b: &mut State) -> Result<(), NoMemory>
     ensures ok { OnOk result (b.new ≡ left b.old) }
     ensures err { OnErr result (GoesOn b.old b.new) }
+    ensures keeps { Keeps result b.old b.new }
 {
     if b.share.connected {
         return end(alloc, b);
@@ -88,6 +97,7 @@ fn try_join(alloc: Global, b: &mut State) -> Result<bool, NoMemory>
     requires { b.old.share.connected ≡ false }
     ensures does { Tries b.old b.new (as_link result) }
     ensures goes { GoesToJoin (as_link result) b.old b.new }
+    ensures keeps { Keeps result b.old b.new }
 {
     if turns_at_connect(alloc, b)? {
         refuse(b)?;
@@ -101,6 +111,7 @@ fn try_join(alloc: Global, b: &mut State) -> Result<bool, NoMemory>
 fn connects(alloc: Global, b: &mut State) -> Result<bool, NoMemory>
     ensures does { Connects b.old b.new (as_link result) }
     ensures goes { GoesToConnect (as_link result) b.old b.new }
+    ensures keeps { Keeps result b.old b.new }
 {
     match leave(alloc, b) {
         Ok(()) => try_join(alloc, b),
@@ -112,6 +123,7 @@ fn connects(alloc: Global, b: &mut State) -> Result<bool, NoMemory>
 fn sends(alloc: Global, b: &mut State, frame: &[u8]) -> Result<bool, NoMemory>
     ensures does { Sends frame.now b.old b.new (as_link result) }
     ensures goes { Goes (send_events frame.now (as_link result)) (is_failed (as_link result)) false b.old b.new }
+    ensures keeps { Keeps result b.old b.new }
 {
     if b.share.connected {
         accept(alloc, b, frame)?;
@@ -127,6 +139,7 @@ fn gives(alloc: Global, b: &mut State, buf: &mut [u8]) -> Result<Got, NoMemory>
     ensures plain { IfOk result (λ g. is_want_of_bytes g ≡ false) }
     ensures does { Gives (length buf.old) buf.new b.old b.new (as_got result) }
     ensures goes { Goes (receive_events buf.new (as_got result)) (is_closed (as_got result)) (is_quiet (as_got result)) b.old b.new }
+    ensures keeps { Keeps result b.old b.new }
 {
     if b.waiting.is_empty() {
         wait(b)?;
@@ -140,6 +153,7 @@ fn closes(alloc: Global, b: &mut State) -> Result<Got, NoMemory>
     ensures closed { IfOk result (λ g. g ≡ got.Closed) }
     ensures ok { OnOk result (b.new ≡ ended [] b.old) }
     ensures err { OnErr result (GoesOn b.old b.new) }
+    ensures keeps { Keeps result b.old b.new }
 {
     end(alloc, b)?;
     Ok(Got::Closed)
@@ -152,6 +166,7 @@ fn takes(alloc: Global, b: &mut State, turn: Turn, buf: &mut [u8]) -> Result<Got
     ensures plain { IfOk result (λ g. is_want_of_bytes g ≡ false) }
     ensures does { Takes turn (length buf.old) buf.new b.old b.new (as_got result) }
     ensures goes { Goes (receive_events buf.new (as_got result)) (is_closed (as_got result)) (is_quiet (as_got result)) b.old b.new }
+    ensures keeps { Keeps result b.old b.new }
 {
     if is_cut(&turn) {
         return closes(alloc, b);
@@ -173,6 +188,7 @@ fn reads(alloc: Global, b: &mut State, buf: &mut [u8]) -> Result<Got, NoMemory>
     ensures plain { IfOk result (λ g. is_want_of_bytes g ≡ false) }
     ensures does { Receives (length buf.old) buf.new b.old b.new (as_got result) }
     ensures goes { Goes (receive_events buf.new (as_got result)) (is_closed (as_got result)) (is_quiet (as_got result)) b.old b.new }
+    ensures keeps { Keeps result b.old b.new }
 {
     if !b.waiting.is_empty() {
         return gives(alloc, b, buf);
@@ -187,6 +203,7 @@ fn receives(alloc: Global, b: &mut State, buf: &mut [u8]) -> Result<Got, NoMemor
     ensures plain { IfOk result (λ g. is_want_of_bytes g ≡ false) }
     ensures does { Receives (length buf.old) buf.new b.old b.new (as_got result) }
     ensures goes { Goes (receive_events buf.new (as_got result)) (is_closed (as_got result)) (is_quiet (as_got result)) b.old b.new }
+    ensures keeps { Keeps result b.old b.new }
 {
     if b.share.connected {
         return reads(alloc, b, buf);
@@ -211,6 +228,8 @@ impl Link for BoxLink {
         ensures faults { self.new.connect_faults ≡ counted self.old.connect_faults (is_failed result) }
         ensures cuts { self.new.cuts ≡ counted self.old.cuts (connect_cuts self.old.share.connected self.new.share.connected result) }
         ensures quiets { self.new.quiets ≡ self.old.quiets }
+        ensures room { self.new.room ≡ self.old.room }
+        ensures fold { self.new.fold ≡ self.old.fold }
         ensures does { self.old.dead ≡ false → Connects self.old self.new result }
         ensures dies { self.new.dead ≡ (self.old.dead || is_want result) }
         ensures dead { self.old.dead ≡ true → (is_want result ≡ true) × (self.new ≡ self.old) }
@@ -235,6 +254,8 @@ impl Link for BoxLink {
         ensures faults { self.new.connect_faults ≡ self.old.connect_faults }
         ensures cuts { self.new.cuts ≡ counted self.old.cuts (is_failed result) }
         ensures quiets { self.new.quiets ≡ self.old.quiets }
+        ensures room { self.new.room ≡ self.old.room }
+        ensures fold { self.new.fold ≡ self.old.fold }
         ensures does { self.old.dead ≡ false → Sends frame.now self.old self.new result }
         ensures dies { self.new.dead ≡ (self.old.dead || is_want result) }
         ensures dead { self.old.dead ≡ true → (is_want result ≡ true) × (self.new ≡ self.old) }
@@ -260,6 +281,8 @@ impl Link for BoxLink {
         ensures faults { self.new.connect_faults ≡ self.old.connect_faults }
         ensures cuts { self.new.cuts ≡ counted self.old.cuts (is_closed result) }
         ensures quiets { self.new.quiets ≡ counted self.old.quiets (is_quiet result) }
+        ensures room { self.new.room ≡ self.old.room }
+        ensures fold { self.new.fold ≡ self.old.fold }
         ensures does { self.old.dead ≡ false → Receives (length buf.old) buf.new self.old self.new result }
         ensures dies { self.new.dead ≡ (self.old.dead || is_want_of_bytes result) }
         ensures dead { self.old.dead ≡ true → (result ≡ got.NoMemory) × (self.new ≡ self.old) }
@@ -282,6 +305,8 @@ impl Link for BoxLink {
         ensures faults { self.new.connect_faults ≡ self.old.connect_faults }
         ensures cuts { self.new.cuts ≡ self.old.cuts }
         ensures quiets { self.new.quiets ≡ self.old.quiets }
+        ensures room { self.new.room ≡ self.old.room }
+        ensures fold { self.new.fold ≡ self.old.fold }
         ensures does { OnOk result ((self.old.dead ≡ false) × (self.new ≡ marked mark.now self.old)) }
         ensures err { OnErr result (self.new ≡ record self.old { dead = true }) }
     {

@@ -7,6 +7,7 @@ ghost use Rattle.share_spec.specs.Reply.{of_status};
 ghost use Rattle.share_spec.specs.Step.{step_of};
 ghost use Rattle.fs_plain.specs.World.{us, with_fid, followed, is_creating, refusal_before, refused_before, resolved, came_to, after_create};
 ghost use Rattle.share_box.specs.declared.bodies.Said.TheVariants as said;
+ghost use Rattle.share_box.specs.Paid.{GrantsNothing};
 ghost use Rattle.share_box.specs.Serving.{plan_by, plan_of, is_doable, plan_is_free, is_servable, said_under, stepped, done_by};
 
 use crate::answers::said_aside;
@@ -180,6 +181,7 @@ fn said_to(message: &[u8]) -> Said
 pub(crate) fn request(alloc: Global, share: &mut Share, who: u32, r: &Req) -> Result<Rep, NoMemory>
     requires { is_built r.now ≡ true }
     ensures ok { IfOk result (λ rep. step_of None share.old (record { 0 = who }) r.now ≡ (rep, share.new)) }
+    ensures grants { IfOk result (λ rep. GrantsNothing rep.body) }
     ensures err { OnErr result (share.new ≡ share.old) }
     ensures connected { share.new.connected ≡ share.old.connected }
 {

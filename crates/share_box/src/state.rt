@@ -3,6 +3,8 @@
 ghost use Rattle.std.specs.Prelude.{◌≡◌, ◌∷◌, [], ◌<◌, false, min, take, IfOk, OnOk, OnErr, length};
 ghost use Rattle.smb_link.specs.declared.event.Event.TheVariants as event;
 ghost use Rattle.share_spec.specs.Cut.{after_join};
+ghost use Rattle.share_box.specs.Paid.{AreProper};
+ghost use Rattle.share_box.specs.Truth.{IsUntold};
 ghost use Rattle.share_box.specs.Calls.{ended, accepted, joined, refused, given, waited, marked, GoesOn};
 
 use crate::sending::add_requests;
@@ -15,6 +17,10 @@ use std::alloc::Global;
 /// What a box holds.
 #[derive(Drop)]
 pub struct State {
+    /// The room of the share, in bytes.
+    pub room: u64,
+    /// Its names are equal that differ in `a` to `z` against `A` to `Z` alone.
+    pub fold: bool,
     /// The share, with the requests that wait.
     pub share: Share,
     /// The bytes that the client has not got yet.
@@ -39,6 +45,7 @@ pub struct State {
 pub(crate) fn end(alloc: Global, b: &mut State) -> Result<(), NoMemory>
     ensures ok { OnOk result (b.new ≡ ended [] b.old) }
     ensures err { OnErr result (GoesOn b.old b.new) }
+    ensures untold { OnErr result (IsUntold b.old b.new) }
 {
     let stood = b.share.connected;
     cut(alloc, &mut b.share)?;
@@ -90,6 +97,8 @@ pub(crate) fn refuse(b: &mut State) -> Result<(), NoMemory>
 pub(crate) fn accept(alloc: Global, b: &mut State, frame: &[u8]) -> Result<(), NoMemory>
     ensures ok { OnOk result (b.new ≡ accepted frame.now b.old) }
     ensures err { OnErr result (GoesOn b.old b.new) }
+    ensures untold { OnErr result (IsUntold b.old b.new) }
+    ensures proper { OnOk result (AreProper b.old.share.sent → AreProper b.new.share.sent) }
 {
     let copy = Bytes::of(alloc, frame)?;
     add_requests(alloc, &mut b.share.sent, frame)?;
@@ -101,6 +110,7 @@ pub(crate) fn lose(alloc: Global, b: &mut State, frame: &[u8]) -> Result<(), NoM
     requires { b.old.share.connected ≡ false }
     ensures ok { OnOk result (b.new ≡ ended (event.Sent frame.now ∷ []) b.old) }
     ensures err { OnErr result (GoesOn b.old b.new) }
+    ensures untold { OnErr result (IsUntold b.old b.new) }
 {
     let copy = Bytes::of(alloc, frame)?;
     cut(alloc, &mut b.share)?;

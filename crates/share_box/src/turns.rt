@@ -5,6 +5,8 @@ ghost use Rattle.share_spec.specs.Built.{is_built};
 ghost use Rattle.share_box.specs.declared.schedule.Turn.TheVariants as turn;
 ghost use Rattle.share_box.specs.Serving.{plan_of};
 ghost use Rattle.share_box.specs.Turns.{may_act, is_possible, must_pass, from_possible, last_turn, turn_of, served, served_as, answered_as, act_events, share_after_act, turned, ahead_in, at_connect};
+ghost use Rattle.share_box.specs.Paid.{AreProper, PaysAs, PaysFirst, ServesPaid};
+ghost use Rattle.share_box.specs.Truth.{Keeps, TookOrNot};
 ghost use Rattle.share_box.specs.Calls.{passed, gone_on, is_refused, GoesOn, Tells};
 
 use crate::answers::reply;
@@ -99,6 +101,8 @@ pub(crate) fn next_turn(alloc: Global, b: &mut State) -> Result<Turn, NoMemory>
 fn serve_first(alloc: Global, b: &mut State) -> Result<(), NoMemory>
     ensures ok { OnOk result (b.new ≡ served b.old.share.sent b.old) }
     ensures goes { GoesOn b.old b.new }
+    ensures pays { OnOk result (PaysFirst b.old.share.sent b.old) }
+    ensures keeps { Keeps result b.old b.new }
 {
     match b.share.sent.take_first() {
         Some(one) => {
@@ -113,6 +117,8 @@ fn serve_first(alloc: Global, b: &mut State) -> Result<(), NoMemory>
 fn serve(alloc: Global, b: &mut State, one: &Sent) -> Result<(), NoMemory>
     ensures ok { OnOk result (b.new ≡ served_as (plan_of one.now) one.now b.old) }
     ensures goes { GoesOn b.old b.new }
+    ensures pays { OnOk result (PaysAs (plan_of one.now) one.now b.old) }
+    ensures told { OnErr result (TookOrNot one.now.mid b.old b.new) }
 {
     b.story.push(Event::Took(one.mid))?;
     answer(alloc, b, one)
@@ -123,6 +129,9 @@ fn answer(alloc: Global, b: &mut State, one: &Sent) -> Result<(), NoMemory>
     ensures ok { OnOk result (b.new ≡ answered_as (plan_of one.now) one.now b.old) }
     ensures rest { b.new ≡ record b.old { share = b.new.share; waiting = b.new.waiting } }
     ensures connected { b.new.share.connected ≡ b.old.share.connected }
+
+    // Its reply pays what is owed for it.
+    ensures pays { OnOk result (PaysAs (plan_of one.now) one.now b.old) }
 {
     match plan_for(alloc, one)? {
         Some(plan) => {
@@ -145,6 +154,7 @@ fn act(
     requires { is_built r ≡ true }
     ensures ok { OnOk result ((share.new ≡ share_after_act share.old who r) × (story.new ≡ story.old ++ act_events share.old who r)) }
     ensures told { Tells story.old story.new }
+    ensures err { OnErr result (story.new ≡ story.old) }
     ensures connected { share.new.connected ≡ share.old.connected }
 {
     let rep = request(alloc, share, who, &r)?;
@@ -157,6 +167,15 @@ pub(crate) fn do_turn(alloc: Global, b: &mut State, turn: Turn) -> Result<(), No
     requires { is_possible b.old.share turn ≡ true }
     ensures ok { OnOk result (b.new ≡ turned turn b.old) }
     ensures goes { GoesOn b.old b.new }
+
+    // Where a request is served, its reply pays what is owed for it.
+    ensures pays { OnOk result (ServesPaid turn b.old) }
+
+    // The requests that wait stay proper.
+    ensures proper { OnOk result (AreProper b.old.share.sent → AreProper b.new.share.sent) }
+
+    // It goes on in step with its story.
+    ensures keeps { Keeps result b.old b.new }
 {
     match turn {
         Turn::Serve(_) => serve_first(alloc, b),
@@ -193,6 +212,7 @@ fn try_act(alloc: Global, b: &mut State, who: u32, r: Req) -> Result<(), NoMemor
     ensures ok { OnOk result (at_connect b.new.turns b.new.share b.new.story ≡ at_connect (turn.Act who r ∷ b.old.turns) b.old.share b.old.story) }
     ensures rest { b.new ≡ record b.old { share = b.new.share; story = b.new.story } }
     ensures goes { GoesOn b.old b.new }
+    ensures keeps { Keeps result b.old b.new }
 {
     if may_act(alloc, &b.share, who, &r)? {
         return act(alloc, &mut b.share, &mut b.story, who, r);
@@ -207,6 +227,7 @@ fn turn_at_connect(alloc: Global, b: &mut State) -> Result<(), NoMemory>
     ensures fewer { length b.new.turns + 1 ≡ length b.old.turns }
     ensures rest { b.new ≡ record b.old { share = b.new.share; story = b.new.story; turns = b.new.turns } }
     ensures goes { GoesOn b.old b.new }
+    ensures keeps { Keeps result b.old b.new }
 {
     match b.turns.take() {
         Some(Turn::Act(who, r)) => try_act(alloc, b, who, r),
@@ -219,6 +240,7 @@ pub(crate) fn turns_at_connect(alloc: Global, b: &mut State) -> Result<bool, NoM
     ensures refused { IfOk result (λ x. x ≡ is_refused b.old) }
     ensures ok { OnOk result (b.new ≡ gone_on b.old) }
     ensures goes { GoesOn b.old b.new }
+    ensures keeps { Keeps result b.old b.new }
 {
     loop {
         match ahead_of(b) {

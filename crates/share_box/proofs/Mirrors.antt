@@ -1,0 +1,439 @@
+-- The share that a story tells of stays the one that a box has, event by event.
+use Rattle.std.proofs.Common.{◌≡◌, ◌∙◌, ℕ, ◌==◌, ◌&&◌, Bool, true, false, not, if◌then◌else◌, List, [], ◌∷◌, ◌++◌, take, drop, map, refl, sym, ap, subst, append_assoc, Result, Ok, Err, Option, Some, None, rules}
+use Rattle.std.specs.Prelude.{is_none, is_some, option_map, filter}
+use Rattle.std.specs.List.{AllByRecursion}
+use Rattle.std.proofs.lemmas.List.{take-append-drop}
+use Rattle.smb_base.specs.declared.names.Mid.{Mid}
+use Rattle.smb_base.specs.declared.names.Fid.{Fid}
+use Rattle.smb_le.specs.Numbers.{number_at}
+use Rattle.smb_head.specs.Stream.{Partial, first_of, fault_of}
+use Rattle.smb_head.proofs.FrameLaws.{first_of-nil}
+use Rattle.smb_head.specs.declared.head.Head.{Head}
+use Rattle.smb_head.specs.declared.head.HeadFault.{HeadFault}
+use Rattle.smb_head.specs.Header.{head_of}
+use Rattle.smb_chain.specs.declared.parts.BadNext.{BadNext}
+use Rattle.smb_field.specs.declared.field.BodyFault.{BodyFault}
+use Rattle.smb_body_b.specs.declared.contexts.ContextSet.{ContextSet}
+use Rattle.share_spec.specs.declared.connection.Grant.{Grant}
+use Rattle.share_spec.specs.declared.connection.LastCreate.{LastCreate}
+use Rattle.share_spec.specs.declared.connection.LastCreate.TheVariants as last
+use Rattle.share_spec.specs.declared.connection.Sent.{Sent}
+use Rattle.share_spec.specs.declared.connection.Owed.{Owed}
+use Rattle.share_spec.specs.declared.connection.Owed.TheVariants as owed
+use Rattle.share_spec.specs.declared.request.Who.{Who}
+use Rattle.share_spec.specs.declared.request.Req.{Req}
+use Rattle.share_spec.specs.declared.request.Req.TheVariants as req
+use Rattle.share_spec.specs.declared.request.Rep.{Rep}
+use Rattle.share_spec.specs.declared.share.Share.{Share}
+use Rattle.share_spec.specs.Reply.{of_status}
+use Rattle.share_spec.specs.State.{has}
+use Rattle.share_spec.specs.Built.{is_built}
+use Rattle.share_spec.specs.Step.{step_of}
+use Rattle.share_spec.specs.Sent.{sent_but}
+use Rattle.share_spec.specs.Cut.{ends_with, after_cut, after_join}
+use Rattle.smb_link.specs.declared.event.Event.TheVariants as event
+use Rattle.fs_plain.specs.Wire.{has_body, bytes_at, units_in}
+use Rattle.fs_plain.specs.Requests.{Asked, fid_at, wanted_lease, share_request, create_with, is_create, create_asked, close_asked, is_query, query_asked, is_aside, by_command, asked_with, asked}
+use Rattle.fs_plain.specs.World.{us, grant_in, waiting, messages_of, first_mid, requests_among, requests_in, after_sent, sent_with, is_first_of_frame, with_fid, followed, is_creating, refusal_before, resolved, refused_before, unless_refused_before, came_to, behind_create, after_create, choices_left, choice_now, after_done, after_aside, after_taking, after_took_of, act_of, after_got, happens}
+use Rattle.fs_plain.specs.Honest.{MayBeDone, MayBeTakenAs, MayTake, MayAct, MayGet, MayHappen}
+use Rattle.fs_plain.specs.Related.{bare}
+use Rattle.fs_plain.proofs.PlainTree.{bare_of}
+use Rattle.fs_plain.proofs.Steps.{Connection, step_leaves}
+use Rattle.fs_plain.proofs.Every.{every-filter}
+use Rattle.share_box.specs.declared.state.State.{State}
+use Rattle.share_box.specs.Turns.{answered_as}
+use Rattle.share_box.specs.Serving.{plan_by, planned, plan_of, stepped}
+use Rattle.share_box.specs.Paid.{IsPayment, is_outcome, IsProper, PaysAs}
+use Rattle.share_box.specs.Truth.{IsBare, AreBare, IsRequest, ArePayments, Mirrors}
+use Rattle.share_box.proofs.SameShare.{step_same, no_needs, bare_allowed, step_grants, cut_same, cut_leases}
+use Rattle.share_box.proofs.Grants.{create_outcome}
+use Rattle.share_box.proofs.Streams.{Front, front, may_be_held, one_more_payment}
+use Rattle.share_box.proofs.Choices.{every_both, closed_connection}
+
+-- a frame is sent: its messages that ask for something wait
+request_if : (frame : Mid) (message : List ℕ) (none : Bool) (others : List Sent) → is_none (asked message) ≡ none → AllByRecursion IsRequest others
+    → AllByRecursion IsRequest (if none then others else waiting frame message ∷ others)
+request_if frame message true others is all = all
+request_if frame message false others is all = (record { asks = is; proper = record { own = refl; outcome = refl } }, all)
+
+all_requests : (frame : Mid) (parts : List (Result (List ℕ) BadNext)) → AllByRecursion IsRequest (requests_among frame parts)
+all_requests frame [] = tt
+all_requests frame (Err bad ∷ parts) = all_requests frame parts
+all_requests frame (Ok message ∷ parts) =
+    request_if frame message (is_none (asked message)) (requests_among frame parts) refl (all_requests frame parts)
+
+pub sent_mirrors : (told own : Share) (waits frame : List ℕ) → own.connected ≡ true → Mirrors told own waits
+    → Mirrors (after_sent frame told) (record own { sent = own.sent ++ requests_in frame }) waits
+sent_mirrors told own waits frame stands old =
+    subst (λ (t : Bool). Mirrors (if t then record told { sent = told.sent ++ requests_in frame } else told) (record own { sent = own.sent ++ requests_in frame }) waits)
+    (sym (old.connected ∙ stands)) (record {
+      tree = old.tree;
+      leases = old.leases;
+      own_leases = old.own_leases;
+      connected = old.connected;
+      sent = ap (λ (l : List Sent). l ++ requests_in frame) old.sent;
+      requests = every_both IsRequest own.sent (requests_in frame) old.requests (all_requests (first_mid (messages_of (first_of frame))) (messages_of (first_of frame)));
+      begun = old.begun;
+      paid = old.paid;
+      choices = old.choices;
+    })
+
+-- where no connection stands it is lost
+pub lost_mirrors : (told own : Share) (waits frame : List ℕ) → own.connected ≡ false → Mirrors told own waits → Mirrors (after_sent frame told) own waits
+lost_mirrors told own waits frame none old =
+    subst (λ (t : Bool). Mirrors (if t then record told { sent = told.sent ++ requests_in frame } else told) own waits) (sym (old.connected ∙ none)) old
+
+-- the connection ends
+pub cut_mirrors : (told own : Share) (waits : List ℕ) → Mirrors told own waits → Mirrors (after_cut told) (after_cut own) []
+cut_mirrors told own waits old = record {
+  tree = cut_same told own old.tree old.leases old.own_leases;
+  leases = cut_leases told old.leases;
+  own_leases = cut_leases own old.own_leases;
+  connected = refl;
+  sent = refl;
+  requests = tt;
+  begun = first_of-nil;
+  paid = refl;
+  choices = subst AreBare (sym (ap (λ (c : Connection). c.grants) (closed_connection (filter (ends_with (record { 0 = 0 }) told.leases) told.opens) told))) old.choices;
+}
+
+-- a connection is made
+pub join_mirrors : (told own : Share) (waits : List ℕ) → Mirrors told own waits → Mirrors (after_join told) (after_join own) []
+join_mirrors told own waits old = record {
+  tree = old.tree;
+  leases = old.leases;
+  own_leases = old.own_leases;
+  connected = refl;
+  sent = refl;
+  requests = tt;
+  begun = first_of-nil;
+  paid = refl;
+  choices = old.choices;
+}
+
+-- bytes are given
+pub got_mirrors : (told own : Share) (waits : List ℕ) (n : ℕ) → Mirrors told own waits
+    → MayGet (take n waits) told × Mirrors (after_got (take n waits) told) own (drop n waits)
+got_mirrors told own waits n old =
+    let whole : told.held ++ waits ≡ (told.held ++ take n waits) ++ drop n waits =
+    sym (append_assoc told.held (take n waits) (drop n waits) ∙ ap (λ (l : List ℕ). told.held ++ l) (take-append-drop n waits)) in
+    let f : Front told.owed (told.held ++ take n waits) (drop n waits) =
+    front told.owed (told.held ++ take n waits) (drop n waits) (subst (ArePayments told.owed) whole old.paid) in (
+      record {
+        paid = f.paid;
+        sound = ap fault_of f.begun;
+        held = may_be_held _ _ _ f.left;
+      },
+      record {
+        tree = old.tree;
+        leases = old.leases;
+        own_leases = old.own_leases;
+        connected = old.connected;
+        sent = old.sent;
+        requests = old.requests;
+        begun = f.begun;
+        paid = f.left;
+        choices = old.choices;
+      },
+    )
+
+-- another client makes a request
+pub act_mirrors : (told own : Share) (waits : List ℕ) (who : ℕ) (r : Req) → (who == 0) ≡ false → is_built r ≡ true → Mirrors told own waits
+    → MayAct who r (step_of None own (record { 0 = who }) r).0 told
+    × Mirrors (act_of who r (step_of None own (record { 0 = who }) r).0 told).1 (step_of None own (record { 0 = who }) r).1 waits
+act_mirrors told own waits who r another built old =
+    let W : Who = record { 0 = who } in
+    let reply : Rep = (step_of None own W r).0 in
+    let same : bare_of (act_of who r reply told) ≡ bare_of (step_of None own W r) = step_same (grant_in reply.body) told own W r old.tree built in
+    let leaves = step_leaves (grant_in reply.body) told W r in
+    let leaves' = step_leaves None own W r in (
+      record {
+        another = another;
+        built = built;
+        needs = no_needs told W r old.leases;
+        choice = bare_allowed (grant_in reply.body) told W r (step_grants None own W r);
+        answered = ap (λ (d : Rep × Share). d.0) same;
+      },
+      record {
+        tree = ap (λ (d : Rep × Share). d.1) same;
+        leases = leaves.1 old.leases;
+        own_leases = leaves'.1 old.own_leases;
+        connected = ap (λ (c : Connection). c.connected) leaves.0 ∙ old.connected ∙ sym (ap (λ (c : Connection). c.connected) leaves'.0);
+        sent = ap (λ (c : Connection). c.sent) leaves.0 ∙ old.sent ∙ sym (ap (λ (c : Connection). c.sent) leaves'.0);
+        requests = subst (λ (c : Connection). AllByRecursion IsRequest c.sent) (sym leaves'.0) old.requests;
+        begun = subst (λ (c : Connection). first_of c.held ≡ Partial) (sym leaves.0) old.begun;
+        paid = subst (λ (c : Connection). ArePayments c.owed (c.held ++ waits)) (sym leaves.0) old.paid;
+        choices = subst (λ (c : Connection). AreBare c.grants) (sym leaves.0) old.choices;
+      },
+    )
+
+-- a message asks for what the share takes
+abbrev IsBuiltIn : Option Asked → Type 0
+IsBuiltIn None = Unit {0}
+IsBuiltIn (Some Asked.Aside) = Unit {0}
+IsBuiltIn (Some (Asked.Share related r)) = is_built r ≡ true
+
+built_if : (t : Bool) (a b : Option Asked) → IsBuiltIn a → IsBuiltIn b → IsBuiltIn (if t then a else b)
+built_if true a b is is' = is
+built_if false a b is is' = is'
+
+built_given : (related : Bool) (r : Req) (t : Bool) → is_built r ≡ t → IsBuiltIn (if t then Some (Asked.Share related r) else None)
+built_given related r true is = is
+built_given related r false is = tt
+
+built_request : (related : Bool) (r : Req) → IsBuiltIn (share_request related r)
+built_request related r = built_given related r (is_built r) refl
+
+-- the CREATE that a message with these contexts is
+abbrev create_in : List ℕ → ContextSet → Req
+create_in message set = req.Create (units_in (bytes_at (number_at 2 108 message) (number_at 2 110 message) message)) (number_at 4 88 message)
+    (number_at 4 96 message) (number_at 4 100 message) (number_at 4 104 message) (number_at 4 92 message) (option_map wanted_lease set.lease) set.durable
+
+built_create : (related : Bool) (message : List ℕ) (contexts : Result ContextSet BodyFault) → IsBuiltIn (create_with related message contexts)
+built_create related message (Err fault) = tt
+built_create related message (Ok set) = built_if (is_some set.reclaim) None (share_request related (create_in message set)) tt (built_request related (create_in message set))
+
+built_command : (command : ℕ) (related : Bool) (message : List ℕ) → IsBuiltIn (by_command command related message)
+built_command command related message =
+    built_if (command == 5) (create_asked related message) _ (built_if (is_create message) _ None (built_create related message _) tt)
+    (built_if (command == 6) (close_asked related message) _ (built_if (has_body 24 message) (share_request related (req.Close (fid_at 72 message))) None (built_request related (req.Close (fid_at 72 message))) tt)
+    (built_if (command == 16) (query_asked related message) _ (built_if (is_query message) (share_request related (req.Query (fid_at 88 message))) None (built_request related (req.Query (fid_at 88 message))) tt)
+    (built_if (is_aside command message) (Some Asked.Aside) None tt tt)))
+
+built_with : (head : Result Head HeadFault) (message : List ℕ) → IsBuiltIn (asked_with head message)
+built_with (Err fault) message = tt
+built_with (Ok head) message = built_if (has head.flags.0 1) None _ tt (built_command head.command (has head.flags.0 4) message)
+
+asked_built : (message : List ℕ) → IsBuiltIn (asked message)
+unfolding asked
+asked_built message = built_with (head_of message) message
+
+-- a related request stays what it is, but for its file id
+abbrev IsAlike : Req → Req → Type 0
+IsAlike r' r = (is_creating r' ≡ is_creating r) × (is_built r' ≡ is_built r)
+
+with_fid_alike : (fid : Fid) (r : Req) → IsAlike (with_fid fid r) r
+with_fid_alike fid (req.Create path access share disposition options attributes lease durable) = (refl, refl)
+with_fid_alike fid (req.Close a) = (refl, refl)
+with_fid_alike fid (req.Flush a) = (refl, refl)
+with_fid_alike fid (req.Query a) = (refl, refl)
+with_fid_alike fid (req.Room a) = (refl, refl)
+with_fid_alike fid (req.Read a b c) = (refl, refl)
+with_fid_alike fid (req.Write a b c) = (refl, refl)
+with_fid_alike fid (req.Lock a b c d) = (refl, refl)
+with_fid_alike fid (req.Unlock a b c) = (refl, refl)
+with_fid_alike fid (req.List a b c) = (refl, refl)
+with_fid_alike fid (req.SetBasic a b) = (refl, refl)
+with_fid_alike fid (req.SetEnd a b) = (refl, refl)
+with_fid_alike fid (req.SetPending a b) = (refl, refl)
+with_fid_alike fid (req.Rename a b c) = (refl, refl)
+with_fid_alike fid (req.LinkTo a b c) = (refl, refl)
+with_fid_alike fid (req.Ack a b) = (refl, refl)
+with_fid_alike fid (req.Reclaim a b) = (refl, refl)
+
+followed_alike : (before : LastCreate) (r : Req) → IsAlike (followed before r) r
+followed_alike last.Nothing r = (refl, refl)
+followed_alike (last.Opened fid) r = with_fid_alike fid r
+followed_alike (last.Refused status) r = (refl, refl)
+
+resolved_alike : (related : Bool) (before : LastCreate) (r : Req) → IsAlike (resolved related before r) r
+resolved_alike true before r = followed_alike before r
+resolved_alike false before r = (refl, refl)
+
+-- a CREATE is not refused before
+not_creating : (related creating : Bool) (refusal : Option ℕ) (status : ℕ) → (if related && not creating then refusal else None) ≡ Some status → creating ≡ false
+not_creating true true refusal status is = absurd (cc is)
+not_creating true false refusal status is = refl
+not_creating false creating refusal status is = absurd (cc is)
+
+-- a request that is taken waits no longer
+abbrev without : Sent → List Sent → Share → Share
+without one others own = record own { sent = sent_but one.mid others }
+
+itself : (n : ℕ) → (n == n) ≡ true
+itself n = search rules
+
+but_first : (one : Sent) (others sent : List Sent) → sent ≡ one ∷ others → sent_but one.mid sent ≡ sent_but one.mid others
+but_first one others sent is =
+    ap (sent_but one.mid) is
+    ∙ ap (λ (t : Bool). if not t then one ∷ sent_but one.mid others else sent_but one.mid others) (itself one.mid.0)
+
+found_first : (one : Sent) (others sent : List Sent) → sent ≡ one ∷ others → sent_with one.mid sent ≡ Some one
+found_first one others sent is =
+    ap (sent_with one.mid) is ∙ ap (λ (t : Bool). if t then Some one else sent_with one.mid others) (itself one.mid.0)
+
+is_first : (one : Sent) (others sent : List Sent) → sent ≡ one ∷ others → is_first_of_frame sent one ≡ true
+is_first one others sent is =
+    ap (λ (l : List Sent). is_first_of_frame l one) is
+    ∙ ap (λ (t : Bool). if t then one.mid.0 == one.mid.0 else is_first_of_frame others one) (itself one.frame.0) ∙ itself one.mid.0
+
+left_requests : (one : Sent) (others sent : List Sent) → sent ≡ one ∷ others → AllByRecursion IsRequest sent → AllByRecursion IsRequest (sent_but one.mid others)
+left_requests one others sent is all =
+    every-filter IsRequest (λ x. not (x.mid.0 == one.mid.0)) others (subst (AllByRecursion IsRequest) is all).1
+
+behind_request : (frame : Mid) (reply : Rep) (x : Sent) (t : Bool) → is_outcome (came_to reply reply.body) ≡ true → IsRequest x
+    → IsRequest (if t then record x { last_create = came_to reply reply.body } else x)
+behind_request frame reply x true outcome is = record { asks = is.asks; proper = record { own = is.proper.own; outcome = outcome } }
+behind_request frame reply x false outcome is = is
+
+behind_requests : (frame : Mid) (reply : Rep) (sent : List Sent) → is_outcome (came_to reply reply.body) ≡ true → AllByRecursion IsRequest sent
+    → AllByRecursion IsRequest (map (behind_create frame reply) sent)
+behind_requests frame reply [] outcome all = tt
+behind_requests frame reply (x ∷ xs) outcome all =
+    (behind_request frame reply x (x.frame.0 == frame.0) outcome all.0, behind_requests frame reply xs outcome all.1)
+
+created_requests : (creating : Bool) (frame : Mid) (reply : Rep) (sent : List Sent) → (creating ≡ true → is_outcome (came_to reply reply.body) ≡ true) → AllByRecursion IsRequest sent
+    → AllByRecursion IsRequest (if creating then map (behind_create frame reply) sent else sent)
+created_requests true frame reply sent outcome all = behind_requests frame reply sent (outcome refl) all
+created_requests false frame reply sent outcome all = all
+
+left_bare : (choices : List (Option Grant)) → AreBare choices → AreBare (choices_left choices)
+left_bare [] all = tt
+left_bare (choice ∷ choices) all = all.1
+
+now_bare : (choices : List (Option Grant)) → AreBare choices → IsBare (choice_now choices)
+now_bare [] all = refl
+now_bare (choice ∷ choices) all = all.0
+
+-- a request is taken: one more frame waits
+record Takes (told after own : Share) (o : Owed) : Type 0 where
+  tree : bare after ≡ bare own
+  leases : after.leases ≡ []
+  own_leases : own.leases ≡ []
+  connected : after.connected ≡ own.connected
+  sent : after.sent ≡ own.sent
+  requests : AllByRecursion IsRequest own.sent
+  held : after.held ≡ told.held
+  owed : after.owed ≡ told.owed ++ o ∷ []
+  grants : after.grants ≡ choices_left told.grants
+
+takes_mirrors : (told after own : Share) (o : Owed) (waits reply : List ℕ) → Takes told after own o → first_of told.held ≡ Partial
+    → ArePayments told.owed (told.held ++ waits) → AreBare told.grants → IsPayment o reply → Mirrors after own (waits ++ reply)
+takes_mirrors told after own o waits reply takes begun paid choices pays = record {
+  tree = takes.tree;
+  leases = takes.leases;
+  own_leases = takes.own_leases;
+  connected = takes.connected;
+  sent = takes.sent;
+  requests = takes.requests;
+  begun = ap first_of takes.held ∙ begun;
+  paid = subst (λ (h : List ℕ). ArePayments after.owed (h ++ (waits ++ reply))) (sym takes.held)
+      (subst (λ (l : List Owed). ArePayments l (told.held ++ (waits ++ reply))) (sym takes.owed)
+      (subst (ArePayments (told.owed ++ o ∷ [])) (append_assoc told.held waits reply)
+      (one_more_payment told.owed o (told.held ++ waits) reply paid pays)));
+  choices = subst AreBare (sym takes.grants) (left_bare told.grants choices);
+}
+
+aside_takes : (told own : Share) (waits : List ℕ) (one : Sent) (others : List Sent) → Mirrors told own waits → own.sent ≡ one ∷ others
+    → Takes told (after_aside one told) (without one others own) (owed.Aside one.mid one.message)
+aside_takes told own waits one others old is = record {
+  tree = old.tree;
+  leases = old.leases;
+  own_leases = old.own_leases;
+  connected = old.connected;
+  sent = but_first one others told.sent (old.sent ∙ is);
+  requests = left_requests one others own.sent is old.requests;
+  held = refl;
+  owed = refl;
+  grants = refl;
+}
+
+refused_takes : (told own : Share) (waits : List ℕ) (one : Sent) (others : List Sent) (r : Req) (status : ℕ) → Mirrors told own waits → own.sent ≡ one ∷ others
+    → is_creating r ≡ false → Takes told (after_done one r (of_status status, told)) (without one others own) (owed.Reply one.mid one.message (of_status status))
+refused_takes told own waits one others r status old is plain = record {
+  tree = old.tree;
+  leases = old.leases;
+  own_leases = old.own_leases;
+  connected = old.connected;
+  sent = ap (λ (t : Bool). if t then map (behind_create one.frame (of_status status)) (sent_but one.mid told.sent) else sent_but one.mid told.sent) plain
+      ∙ but_first one others told.sent (old.sent ∙ is);
+  requests = left_requests one others own.sent is old.requests;
+  held = refl;
+  owed = refl;
+  grants = refl;
+}
+
+step_takes : (told own : Share) (waits : List ℕ) (one : Sent) (others : List Sent) (r r' : Req) → Mirrors told own waits → own.sent ≡ one ∷ others
+    → is_creating r' ≡ is_creating r → is_built r' ≡ true
+    → Takes told (after_done one r (step_of (choice_now told.grants) told us r'))
+    (stepped one.frame r' (step_of None (without one others own) us r')).1
+    (owed.Reply one.mid one.message (step_of None (without one others own) us r').0)
+step_takes told own waits one others r r' old is creating built =
+    let done : Rep × Share = step_of (choice_now told.grants) told us r' in
+    let done' : Rep × Share = step_of None (without one others own) us r' in
+    let same : bare_of done ≡ bare_of done' = step_same (choice_now told.grants) told (without one others own) us r' old.tree built in
+    let reply : done.0 ≡ done'.0 = ap (λ (d : Rep × Share). d.0) same in
+    let leaves = step_leaves (choice_now told.grants) told us r' in
+    let leaves' = step_leaves None (without one others own) us r' in
+    let sent : sent_but one.mid done.1.sent ≡ done'.1.sent =
+    ap (λ (c : Connection). sent_but one.mid c.sent) leaves.0 ∙ but_first one others told.sent (old.sent ∙ is) ∙ sym (ap (λ (c : Connection). c.sent) leaves'.0) in
+    record {
+      tree = ap (λ (d : Rep × Share). d.1) same;
+      leases = leaves.1 old.leases;
+      own_leases = leaves'.1 old.own_leases;
+      connected = ap (λ (c : Connection). c.connected) leaves.0 ∙ old.connected ∙ sym (ap (λ (c : Connection). c.connected) leaves'.0);
+      sent = ap (λ (t : Bool). if t then map (behind_create one.frame done.0) (sent_but one.mid done.1.sent) else sent_but one.mid done.1.sent) (sym creating)
+          ∙ ap (λ (l : List Sent). after_create r' one.frame done.0 l) sent
+          ∙ ap (λ (d : Rep). after_create r' one.frame d done'.1.sent) reply;
+      requests = created_requests (is_creating r') one.frame done'.0 done'.1.sent (create_outcome (without one others own) us r')
+          (subst (λ (c : Connection). AllByRecursion IsRequest c.sent) (sym leaves'.0) (left_requests one others own.sent is old.requests));
+      held = ap (λ (c : Connection). c.held) leaves.0;
+      owed = ap (λ (c : Connection). c.owed ++ owed.Reply one.mid one.message done.0 ∷ []) leaves.0
+          ∙ ap (λ (d : Rep). told.owed ++ owed.Reply one.mid one.message d ∷ []) reply;
+      grants = ap (λ (c : Connection). choices_left c.grants) leaves.0;
+    }
+
+-- a request to the share is taken, unless the CREATE before it refuses it
+may_share : (told own : Share) (waits : List ℕ) (r : Req) (refusal : Option ℕ) → Mirrors told own waits → MayBeDone refusal (choice_now told.grants) told r
+may_share told own waits r None old = (no_needs told us r old.leases, bare_allowed (choice_now told.grants) told us r (now_bare told.grants old.choices))
+may_share told own waits r (Some status) old = tt
+
+may_be_taken : (told own : Share) (waits : List ℕ) (before : LastCreate) (a : Option Asked) → Mirrors told own waits → is_none a ≡ false → MayBeTakenAs a before told
+may_be_taken told own waits before None old asks = absurd (cc asks)
+may_be_taken told own waits before (Some Asked.Aside) old asks = tt
+may_be_taken told own waits before (Some (Asked.Share related r)) old asks = may_share told own waits (resolved related before r) (refused_before related before r) old
+
+-- the oldest request that waits may be taken
+pub may_take : (told own : Share) (waits : List ℕ) (one : Sent) (others : List Sent) → Mirrors told own waits → own.sent ≡ one ∷ others
+    → MayHappen told (event.Took one.mid)
+may_take told own waits one others old is =
+    let request : IsRequest one = (subst (AllByRecursion IsRequest) is old.requests).0 in
+    subst (λ (found : Option Sent). MayTake found told) (sym (found_first one others told.sent (old.sent ∙ is)))
+    (is_first one others told.sent (old.sent ∙ is), may_be_taken told own waits one.last_create (asked one.message) old request.asks)
+
+-- what comes of it
+sharing : (told own : Share) (b : State) (one : Sent) (others : List Sent) (r r' : Req) (refusal : Option ℕ) → Mirrors told own b.waiting → own.sent ≡ one ∷ others
+    → IsProper one → ((status : ℕ) → refusal ≡ Some status → is_creating r ≡ false) → is_creating r' ≡ is_creating r → is_built r' ≡ true
+    → PaysAs (Some (plan_by refusal r')) one (record b { share = without one others own })
+    → Mirrors (after_done one r (unless_refused_before refusal told (step_of (choice_now told.grants) told us r')))
+    (answered_as (Some (plan_by refusal r')) one (record b { share = without one others own })).share
+    (answered_as (Some (plan_by refusal r')) one (record b { share = without one others own })).waiting
+sharing told own b one others r r' None old is proper plain creating built pays =
+    takes_mirrors told _ _ _ b.waiting _ (step_takes told own b.waiting one others r r' old is creating built) old.begun old.paid old.choices (pays proper)
+sharing told own b one others r r' (Some status) old is proper plain creating built pays =
+    takes_mirrors told _ _ _ b.waiting _ (refused_takes told own b.waiting one others r status old is (plain status refl)) old.begun old.paid old.choices (pays proper)
+
+taking : (told own : Share) (b : State) (one : Sent) (others : List Sent) (a : Option Asked) → Mirrors told own b.waiting → own.sent ≡ one ∷ others
+    → IsProper one → is_none a ≡ false → IsBuiltIn a → PaysAs (planned one.last_create a) one (record b { share = without one others own })
+    → Mirrors (after_taking a one told) (answered_as (planned one.last_create a) one (record b { share = without one others own })).share
+    (answered_as (planned one.last_create a) one (record b { share = without one others own })).waiting
+taking told own b one others None old is proper asks built pays = absurd (cc asks)
+taking told own b one others (Some Asked.Aside) old is proper asks built pays =
+    takes_mirrors told _ _ _ b.waiting _ (aside_takes told own b.waiting one others old is) old.begun old.paid old.choices (pays proper)
+taking told own b one others (Some (Asked.Share related r)) old is proper asks built pays =
+    let alike : IsAlike (resolved related one.last_create r) r = resolved_alike related one.last_create r in
+    sharing told own b one others r (resolved related one.last_create r) (refused_before related one.last_create r) old is proper
+    (not_creating related (is_creating r) (refusal_before one.last_create)) alike.0 (alike.1 ∙ built) pays
+
+-- the oldest request that waits is taken
+pub took_mirrors : (told own : Share) (b : State) (one : Sent) (others : List Sent) → Mirrors told own b.waiting → own.sent ≡ one ∷ others
+    → PaysAs (plan_of one) one (record b { share = without one others own })
+    → Mirrors (happens told (event.Took one.mid)) (answered_as (plan_of one) one (record b { share = without one others own })).share
+    (answered_as (plan_of one) one (record b { share = without one others own })).waiting
+unfolding plan_of
+took_mirrors told own b one others old is pays =
+    let request : IsRequest one = (subst (AllByRecursion IsRequest) is old.requests).0 in
+    subst (λ (found : Option Sent). Mirrors (after_took_of found told) (answered_as (planned one.last_create (asked one.message)) one (record b { share = without one others own })).share
+    (answered_as (planned one.last_create (asked one.message)) one (record b { share = without one others own })).waiting)
+    (sym (found_first one others told.sent (old.sent ∙ is)))
+    (taking told own b one others (asked one.message) old is request.proper request.asks (asked_built one.message) pays)

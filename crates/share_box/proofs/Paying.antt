@@ -1,0 +1,199 @@
+-- A written reply pays what is owed.
+use Rattle.std.proofs.Common.{◌≡◌, ◌∙◌, ◌⊎◌, inl, inr, ℕ, Bool, true, false, List, [], ◌++◌, Option, Some, None, Result, Ok, Err, OnOk, refl, sym, ap, subst, arith, length-append}
+use Rattle.std.specs.Prelude.{◌==◌, not, ◌&&◌, ◌||◌, if◌then◌else◌}
+use Rattle.smb_le.specs.Numbers.{number_at}
+use Rattle.smb_head.specs.declared.head.Head.{Head}
+use Rattle.smb_head.specs.declared.head.HeadFault.{HeadFault}
+use Rattle.smb_head.specs.Header.{head_of, header}
+use Rattle.smb_head.proofs.HeadLaws.{length-header}
+use Rattle.smb_field.specs.Body.{IsReadAgain, spelling}
+use Rattle.share_spec.specs.declared.connection.Owed.{Owed}
+use Rattle.share_spec.specs.declared.connection.Owed.TheVariants as owed
+use Rattle.share_spec.specs.declared.connection.Sent.{Sent}
+use Rattle.share_spec.specs.declared.request.Rep.{Rep}
+use Rattle.share_spec.specs.declared.request.Req.{Req}
+use Rattle.share_spec.specs.declared.share.Share.{Share}
+use Rattle.share_spec.specs.Reply.{of_status, opened_reply, fid_of}
+use Rattle.share_spec.specs.Query.{info_reply}
+use Rattle.share_spec.specs.Step.{step_of}
+use Rattle.fs_plain.specs.Wire.{has_body, lies}
+use Rattle.fs_plain.specs.Replies.{is_error, body_in, reply_of, reply_by_status, is_aside_by_status, Pays}
+use Rattle.fs_plain.specs.World.{us}
+use Rattle.share_box.specs.declared.bodies.Said.{Said}
+use Rattle.share_box.specs.declared.bodies.Said.TheVariants as said
+use Rattle.share_box.specs.declared.serving.Plan.{Plan}
+use Rattle.share_box.specs.declared.serving.Plan.TheVariants as plan
+use Rattle.share_box.specs.declared.state.State.{State}
+use Rattle.share_box.specs.Bodies.{negotiated, challenge, session, tree, empty, error, opened, closed, buffer, body_of, status_of}
+use Rattle.share_box.specs.Again.{IsBodyAgain}
+use Rattle.share_box.specs.Answers as answers
+use Rattle.share_box.specs.Answers.{is_first_message, token_in, said_session, said_aside, reply_head}
+use Rattle.share_box.specs.Serving.{plan_of, said_under, done_by}
+use Rattle.share_box.specs.Paid.{IsPayment, owed_for, is_refusal, IsProper, IsReply, IsReplyTo, PaysAs}
+use Rattle.share_box.proofs.Reading.{stands, error_is, closed_is, opened_is, info_is, negotiated_is, session_is, tree_is, empty_is}
+use Rattle.share_box.proofs.Shapes.{IsRefused, IsOpened, IsTold, create_shape, query_shape, close_shape}
+use Rattle.share_box.proofs.Asking.{IsCreate, IsClose, IsQuery, HasHead, HasRequest, plan_does_own, plan_has_head, plan_refuses_so}
+use Rattle.share_box.proofs.Heard.{heard, heard_aside}
+
+-- the message of a reply
+abbrev message : Head → Said → List ℕ
+message head what = header head ++ body_of what
+
+-- what a reply of the share says: behind any header the body is read as this reply to this command
+abbrev Says : ℕ → Rep → Type 0
+Says command reply =
+    IsBodyAgain (said.Share reply) → (head : Head) → reply_by_status reply.status.0 command (message head (said.Share reply)) ≡ Some reply
+
+refused_by : (a b c e : Bool) (x y : Option Rep) → (not a && not b) ≡ true → e ≡ true → (if a || (b && c) then x else if e then y else None) ≡ y
+refused_by true b c e x y h is = absurd (cc h)
+refused_by false true c e x y h is = absurd (cc h)
+refused_by false false c e x y h is = rw is refl
+
+refused_body : (t u : Bool) (status : ℕ) → (status == 0) ≡ t → (not t && u) ≡ true → IsBodyAgain (said.Share (of_status status))
+    → IsReadAgain 9 error [] × (body_of (said.Share (of_status status)) ≡ spelling 9 error [])
+unfolding IsBodyAgain body_of
+refused_body true u status is h again = absurd (cc h)
+refused_body false u status is h again = (rw is at again, rw is refl)
+
+-- a refusal has the body of an error
+refused_says : (command status : ℕ) → is_refusal status ≡ true → Says command (of_status status)
+refused_says command status refusal again head =
+    let body : IsReadAgain 9 error [] × (body_of (said.Share (of_status status)) ≡ spelling 9 error []) =
+    refused_body (status == 0) (not (status == 0x80000005)) status refl refusal again in
+    let m = message head (said.Share (of_status status)) in
+    let is : is_error m ≡ true =
+    subst (λ (b : List ℕ). is_error (header head ++ b) ≡ true) (sym body.1)
+    (error_is (header head ++ spelling 9 error []) (stands 9 error [] (header head) body.0 (length-header head))) in
+    refused_by (status == 0) (status == 0x80000005) (command == 16) (is_error m) (reply_of 0 (body_in command m)) (Some (of_status status)) refusal is
+
+-- a CREATE that was done
+opened_says : (number action size attributes : ℕ) → Says 5 (opened_reply number action size attributes)
+unfolding IsBodyAgain body_of
+opened_says number action size attributes again head =
+    ap (reply_of 0) (opened_is (fid_of number) action size attributes (message head (said.Share (opened_reply number action size attributes)))
+    (stands 89 (opened (fid_of number) action size attributes) [] (header head) again (length-header head)))
+
+-- a Query that was done
+told_says : (s : Share) (node entry : ℕ) → Says 16 (info_reply s node entry)
+unfolding IsBodyAgain body_of
+told_says s node entry again head =
+    ap (reply_of 0) (info_is _ _ _ _ _ _ (message head (said.Share (info_reply s node entry))) again
+    (stands 9 (buffer 100) _ (header head) again.body (length-header head)))
+
+-- a Close that was done
+closed_says : Says 6 (of_status 0)
+unfolding IsBodyAgain body_of
+closed_says again head =
+    ap (reply_of 0) (closed_is (message head (said.Share (of_status 0))) (stands 60 closed [] (header head) again (length-header head)))
+
+created : (command : ℕ) (reply : Rep) → command ≡ 5 → IsRefused reply ⊎ IsOpened reply → Says command reply
+created command reply by (inl r) = subst (Says command) (sym r.is) (refused_says command r.status r.refusal)
+created command reply by (inr o) =
+    subst (λ (c : ℕ). Says c reply) (sym by) (subst (Says 5) (sym o.is) (opened_says o.number o.action o.size o.attributes))
+
+told : (command : ℕ) (reply : Rep) → command ≡ 16 → IsRefused reply ⊎ IsTold reply → Says command reply
+told command reply by (inl r) = subst (Says command) (sym r.is) (refused_says command r.status r.refusal)
+told command reply by (inr o) =
+    subst (λ (c : ℕ). Says c reply) (sym by) (subst (Says 16) (sym o.is) (told_says o.share o.node o.entry))
+
+ended : (command : ℕ) (reply : Rep) → command ≡ 6 → IsRefused reply ⊎ (reply ≡ of_status 0) → Says command reply
+ended command reply by (inl r) = subst (Says command) (sym r.is) (refused_says command r.status r.refusal)
+ended command reply by (inr is) = subst (λ (c : ℕ). Says c reply) (sym by) (subst (Says 6) (sym is) closed_says)
+
+-- what the share replies to a request of a command
+steps : (command : ℕ) (s : Share) (r : Req) → IsCreate command r ⊎ (IsClose command r ⊎ IsQuery command r) → Says command (step_of None s us r).0
+steps command s r (inl c) =
+    subst (λ (q : Req). Says command (step_of None s us q).0) (sym c.is) (created command _ c.by (create_shape s us c.path (record {
+      access = c.access;
+      share = c.share;
+      disposition = c.disposition;
+      options = c.options;
+      attributes = c.attributes;
+    })))
+steps command s r (inr (inl c)) =
+    subst (λ (q : Req). Says command (step_of None s us q).0) (sym c.is) (ended command _ c.by (close_shape s us c.fid))
+steps command s r (inr (inr c)) =
+    subst (λ (q : Req). Says command (step_of None s us q).0) (sym c.is) (told command _ c.by (query_shape s us c.fid))
+
+-- what is said to a request of the connection itself, by its command
+abbrev chosen : Bool → Bool → Bool → Bool → Said
+chosen a b c d =
+    if a then said.Negotiated else if b then (if d then said.Challenge else said.Session) else if c then said.Tree else said.Done
+
+chosen_says : (a b c d : Bool) (command : ℕ) (head : Head) → (command == 0) ≡ a → (command == 1) ≡ b → (command == 3) ≡ c
+    → IsBodyAgain (chosen a b c d) → is_aside_by_status (status_of (chosen a b c d)).0 command (message head (chosen a b c d)) ≡ true
+unfolding IsBodyAgain body_of
+chosen_says true b c d command head p q r again =
+    rw p (negotiated_is (message head said.Negotiated) (stands 65 negotiated [] (header head) again (length-header head)))
+chosen_says false true c true command head p q r again =
+    rw (p, q) (session_is 0 challenge (message head said.Challenge) (stands 9 (session 0 56) challenge (header head) again (length-header head)))
+chosen_says false true c false command head p q r again =
+    rw (p, q) (session_is 2 [] (message head said.Session) (stands 9 (session 2 0) [] (header head) again (length-header head)))
+chosen_says false false true d command head p q r again =
+    rw (p, q, r) (tree_is (message head said.Tree) (stands 16 tree [] (header head) again (length-header head)))
+chosen_says false false false d command head p q r again =
+    rw (p, q, r) (empty_is (message head said.Done) (stands 4 empty [] (header head) again (length-header head)))
+
+aside_says : (command : ℕ) (request : List ℕ) (head : Head) → IsBodyAgain (said_aside command request)
+    → is_aside_by_status (status_of (said_aside command request)).0 command (message head (said_aside command request)) ≡ true
+unfolding said_session
+aside_says command request head again =
+    chosen_says (command == 0) (command == 1) (command == 3)
+    (has_body 25 request && lies 25 (number_at 2 76 request) (number_at 2 78 request) request && is_first_message (token_in request))
+    command head refl refl refl again
+
+-- the frame of one message that pays is a payment
+pays_by : (o : Owed) (head : Head) (what : Said) (bytes : List ℕ) → IsReply head what bytes → Pays o (message head what) → IsPayment o bytes
+pays_by o head what bytes reply pays = record {
+  message = message head what;
+  framed = reply.framed;
+  alone = reply.alone;
+  fits = (omega (arith, length-append (header head) (body_of what), length-header head), reply.small);
+  pays = pays;
+}
+
+-- the reply to a request that waits, by what is to be done for it, pays what is owed
+pub paid : (p : Plan) (one : Sent) (s : Share) (credits : ℕ) (bytes : List ℕ) → plan_of one ≡ Some p → IsProper one
+    → IsReplyTo (head_of one.message) credits (done_by p one s).0 bytes → IsPayment (owed_for p one (done_by p one s).0) bytes
+paid plan.Aside one s credits bytes planned pending reply =
+    let there : HasHead one.message = plan_has_head one plan.Aside planned in
+    let what = said_aside there.head.command one.message in
+    let head = reply_head there.head credits what in
+    let r : IsReply head what bytes =
+    subst (λ (x : Result Head HeadFault). IsReplyTo x credits (said_under x one.message) bytes) there.is reply in
+    pays_by (owed.Aside one.mid one.message) head what bytes r
+    (heard_aside one.mid one.message (message head what) there.head credits what there.is pending.own r.read
+    ∙ aside_says there.head.command one.message head r.again)
+paid (plan.Refuse status) one s credits bytes planned pending reply =
+    let there : HasHead one.message = plan_has_head one (plan.Refuse status) planned in
+    let what = said.Share (of_status status.0) in
+    let head = reply_head there.head credits what in
+    let r : IsReply head what bytes = subst (λ (x : Result Head HeadFault). IsReplyTo x credits what bytes) there.is reply in
+    pays_by (owed.Reply one.mid one.message (of_status status.0)) head what bytes r
+    (heard one.mid one.message (message head what) there.head credits what there.is pending.own r.read
+    ∙ refused_says there.head.command status.0 (plan_refuses_so one status planned pending.outcome) r.again head)
+paid (plan.Do q) one s credits bytes planned pending reply =
+    let there : HasRequest one.message q = plan_does_own one q planned in
+    let what = said.Share (step_of None s us q).0 in
+    let head = reply_head there.head credits what in
+    let r : IsReply head what bytes = subst (λ (x : Result Head HeadFault). IsReplyTo x credits what bytes) there.is reply in
+    pays_by (owed.Reply one.mid one.message (step_of None s us q).0) head what bytes r
+    (heard one.mid one.message (message head what) there.head credits what there.is pending.own r.read
+    ∙ steps there.head.command s q there.fits r.again head)
+
+-- so does the reply that a box writes
+pub pays_as : (one : Sent) (b : State) (p : Plan) (what : Said) (bytes : List ℕ) → plan_of one ≡ Some p → (done_by p one b.share).0 ≡ what
+    → bytes ≡ answers.reply_of b.credits one.message what → IsReplyTo (head_of one.message) b.credits what bytes → PaysAs (plan_of one) one b
+pays_as one b p what bytes planned done is reply =
+    let own : IsReplyTo (head_of one.message) b.credits (done_by p one b.share).0 bytes =
+    subst (λ (w : Said). IsReplyTo (head_of one.message) b.credits w bytes) (sym done) reply in
+    let same : bytes ≡ answers.reply_of b.credits one.message (done_by p one b.share).0 =
+    is ∙ ap (λ (w : Said). answers.reply_of b.credits one.message w) (sym done) in
+    subst (λ (o : Option Plan). PaysAs o one b) (sym planned)
+    (λ pending. subst (λ (f : List ℕ). IsPayment (owed_for p one (done_by p one b.share).0) f) same
+    (paid p one b.share b.credits bytes planned pending own))
+
+-- what holds anyhow holds of a success
+pub ok_any : {A E : Type 0} {P : Type 0} (r : Result A E) → P → OnOk r P
+ok_any (Ok done) p = p
+ok_any (Err e) p = tt

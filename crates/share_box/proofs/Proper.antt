@@ -1,0 +1,155 @@
+-- Requests that wait stay proper: each under the id in its message, and with what a CREATE before it can come to.
+use Rattle.std.proofs.Common.{◌≡◌, ◌∙◌, ℕ, Bool, true, false, List, [], ◌∷◌, ◌++◌, Option, Some, None, Result, Ok, Err, OnOk, map, refl, sym, ap, subst}
+use Rattle.std.specs.Prelude.{◌==◌, not, if◌then◌else◌, filter, is_none}
+use Rattle.std.specs.List.{list_all}
+use Rattle.smb_base.specs.declared.names.Mid.{Mid}
+use Rattle.smb_chain.specs.declared.parts.BadNext.{BadNext}
+use Rattle.smb_head.specs.Stream.{first_of}
+use Rattle.share_spec.specs.declared.connection.Sent.{Sent}
+use Rattle.share_spec.specs.declared.create.Wanted.{Wanted}
+use Rattle.share_spec.specs.declared.opens.Open.{Open}
+use Rattle.share_spec.specs.declared.place.Place.{Place}
+use Rattle.share_spec.specs.declared.place.Place.TheVariants.{NoPath, Missing, There}
+use Rattle.share_spec.specs.declared.request.Who.{Who}
+use Rattle.share_spec.specs.declared.request.Rep.{Rep}
+use Rattle.share_spec.specs.declared.request.Req.{Req}
+use Rattle.share_spec.specs.declared.request.Req.TheVariants as req
+use Rattle.share_spec.specs.declared.share.Share.{Share}
+use Rattle.share_spec.specs.Names.{is_name, components}
+use Rattle.share_spec.specs.State.{emptied}
+use Rattle.share_spec.specs.Place.{place_of}
+use Rattle.share_spec.specs.Reply.{unless, refused}
+use Rattle.share_spec.specs.Sent.{sent_but}
+use Rattle.share_spec.specs.Create.{is_disposition, overwrites, made, opened, create_at, create_of}
+use Rattle.share_spec.specs.Close.{open_of, close_open}
+use Rattle.share_spec.specs.Query.{query_open}
+use Rattle.share_spec.specs.Step.{step_of}
+use Rattle.fs_plain.specs.Requests.{asked}
+use Rattle.fs_plain.specs.World.{us, is_creating, came_to, waiting, behind_create, messages_of, first_mid, requests_among, requests_in}
+use Rattle.share_box.specs.declared.serving.Plan.{Plan}
+use Rattle.share_box.specs.declared.serving.Plan.TheVariants as plan
+use Rattle.share_box.specs.declared.state.State.{State}
+use Rattle.share_box.specs.Serving.{plan_of}
+use Rattle.share_box.specs.Paid.{is_outcome, IsProper, AreProper}
+use Rattle.share_box.specs.Turns.{share_after_act, served_as, served}
+use Rattle.share_box.proofs.Grants.{create_outcome}
+
+by_test : (t : Bool) (xs ys : List Sent) → AreProper xs → AreProper ys → AreProper (if t then xs else ys)
+by_test true xs ys p q = p
+by_test false xs ys p q = q
+
+proper_more : (t : Bool) (x : Sent) (xs : List Sent) → IsProper x → AreProper xs → AreProper (if t then x ∷ xs else xs)
+proper_more true x xs p q = (p, q)
+proper_more false x xs p q = q
+
+proper_filter : (keeps : Sent → Bool) (xs : List Sent) → AreProper xs → AreProper (filter keeps xs)
+proper_filter keeps [] all = tt
+proper_filter keeps (x ∷ xs) all = proper_more (keeps x) x (filter keeps xs) all.0 (proper_filter keeps xs all.1)
+
+proper_append : (xs ys : List Sent) → AreProper xs → AreProper ys → AreProper (xs ++ ys)
+proper_append [] ys p q = q
+proper_append (x ∷ xs) ys p q = (p.0, proper_append xs ys p.1 q)
+
+-- the requests of a frame
+among : (frame : Mid) (parts : List (Result (List ℕ) BadNext)) → AreProper (requests_among frame parts)
+among frame [] = tt
+among frame (Err bad ∷ parts) = among frame parts
+among frame (Ok message ∷ parts) = by (is_none (asked message)) (requests_among frame parts) (among frame parts)
+  where
+    by : (t : Bool) (others : List Sent) → AreProper others → AreProper (if t then others else waiting frame message ∷ others)
+    by true others all = all
+    by false others all = (record { own = refl; outcome = refl }, all)
+
+told : (frame : Mid) (reply : Rep) (x : Sent) → is_outcome (came_to reply reply.body) ≡ true → IsProper x → IsProper (behind_create frame reply x)
+told frame reply x outcome proper = by (x.frame.0 == frame.0)
+  where
+    by : (t : Bool) → IsProper (if t then record x { last_create = came_to reply reply.body } else x)
+    by true = record { own = proper.own; outcome = outcome }
+    by false = proper
+
+all_told : (frame : Mid) (reply : Rep) (xs : List Sent) → is_outcome (came_to reply reply.body) ≡ true → AreProper xs → AreProper (map (behind_create frame reply) xs)
+all_told frame reply [] outcome all = tt
+all_told frame reply (x ∷ xs) outcome all = (told frame reply x outcome all.0, all_told frame reply xs outcome all.1)
+
+after_proper : (t : Bool) (frame : Mid) (reply : Rep) (xs : List Sent) → (t ≡ true → is_outcome (came_to reply reply.body) ≡ true) → AreProper xs
+    → AreProper (if t then map (behind_create frame reply) xs else xs)
+after_proper true frame reply xs outcome all = all_told frame reply xs (outcome refl) all
+after_proper false frame reply xs outcome all = all
+
+-- a request to the share leaves those that wait
+either : (t : Bool) (x y : Rep × Share) (sent : List Sent) → x.1.sent ≡ sent → y.1.sent ≡ sent → (if t then x else y).1.sent ≡ sent
+either true x y sent p q = p
+either false x y sent p q = q
+
+either_share : (t : Bool) (x y : Share) (sent : List Sent) → x.sent ≡ sent → y.sent ≡ sent → (if t then x else y).sent ≡ sent
+either_share true x y sent p q = p
+either_share false x y sent p q = q
+
+unless_same : (reason : Option ℕ) (s : Share) (done : Rep × Share) → done.1.sent ≡ s.sent → (unless reason s done).1.sent ≡ s.sent
+unless_same None s done same = same
+unless_same (Some status) s done same = refl
+
+at_place : (s : Share) (who : Who) (w : Wanted) (p : Place) → (create_at s who w p).1.sent ≡ s.sent
+at_place s who w NoPath = refl
+at_place s who w (Missing d name) = unless_same _ s (made s who w d name) refl
+at_place s who w (There f) =
+    unless_same _ s (opened s who w f) (either_share (overwrites w.disposition) (record s { nodes = map (emptied f.node) s.nodes }) s s.sent refl refl)
+
+create_same : (s : Share) (who : Who) (path : List ℕ) (w : Wanted) → (create_of s who path w).1.sent ≡ s.sent
+create_same s who path w =
+    either (not (is_disposition w.disposition)) (refused 0xC000000D s)
+    (if not (list_all is_name (components path)) then refused 0xC0000033 s else create_at s who w (place_of s (components path))) s.sent refl
+    (either (not (list_all is_name (components path))) (refused 0xC0000033 s) (create_at s who w (place_of s (components path))) s.sent refl
+    (at_place s who w (place_of s (components path))))
+
+close_same : (o : Option Open) (s : Share) → (close_open o s).1.sent ≡ s.sent
+close_same None s = refl
+close_same (Some o) s = refl
+
+query_same : (o : Option Open) (s : Share) → (query_open o s).1.sent ≡ s.sent
+query_same None s = refl
+query_same (Some o) s = refl
+
+step_sent : (s : Share) (who : Who) (r : Req) → (step_of None s who r).1.sent ≡ s.sent
+step_sent s who (req.Create path access share disposition options attributes lease durable) =
+    create_same s who path (record { access = access; share = share; disposition = disposition; options = options; attributes = attributes })
+step_sent s who (req.Close fid) = close_same (open_of s.opens who fid) s
+step_sent s who (req.Query fid) = query_same (open_of s.opens who fid) s
+step_sent s who other = refl
+
+does_proper : (p : Plan) (one : Sent) (b : State) → AreProper b.share.sent → AreProper (served_as (Some p) one b).share.sent
+does_proper plan.Aside one b all = all
+does_proper (plan.Refuse status) one b all = all
+does_proper (plan.Do r) one b all =
+    after_proper (is_creating r) one.frame (step_of None b.share us r).0 (step_of None b.share us r).1.sent (λ creating. create_outcome b.share us r creating)
+    (subst AreProper (sym (step_sent b.share us r)) all)
+
+serves_proper : (o : Option Plan) (one : Sent) (b : State) → AreProper b.share.sent → AreProper (served_as o one b).share.sent
+serves_proper None one b all = all
+serves_proper (Some p) one b all = does_proper p one b all
+
+served_proper : (sent : List Sent) (b : State) → AreProper sent → AreProper b.share.sent → AreProper (served sent b).share.sent
+served_proper [] b waiting all = all
+served_proper (one ∷ others) b waiting all =
+    serves_proper (plan_of one) one (record b { share = record b.share { sent = sent_but one.mid others } })
+    (proper_filter (λ x. not (x.mid.0 == one.mid.0)) others waiting.1)
+
+-- code that serves the oldest request leaves proper what waits
+pub serve_keeps : {A E : Type 0} (r : Result A E) (old new : State) → OnOk r (new ≡ served old.share.sent old)
+    → OnOk r (AreProper old.share.sent → AreProper new.share.sent)
+serve_keeps (Ok done) old new is = λ all. subst (λ (b : State). AreProper b.share.sent) (sym is) (served_proper old.share.sent old all all)
+serve_keeps (Err e) old new is = tt
+
+-- so does code that does a request of another client
+pub act_keeps : {A E : Type 0} (r : Result A E) (old new : Share) (who : ℕ) (q : Req) (more : Type 0) → OnOk r ((new ≡ share_after_act old who q) × more)
+    → OnOk r (AreProper old.sent → AreProper new.sent)
+act_keeps (Ok done) old new who q more is =
+    λ all. subst AreProper (sym (ap (λ (s : Share). s.sent) is.0 ∙ step_sent old (record { 0 = who }) q)) all
+act_keeps (Err e) old new who q more is = tt
+
+-- and code that takes a frame
+pub accept_keeps : {A E : Type 0} (r : Result A E) (frame : List ℕ) (sent new : List Sent) → new ≡ sent ++ requests_in frame
+    → OnOk r (AreProper sent → AreProper new)
+accept_keeps (Ok done) frame sent new is = λ all.
+    subst AreProper (sym is) (proper_append sent (requests_in frame) all (among (first_mid (messages_of (first_of frame))) (messages_of (first_of frame))))
+accept_keeps (Err e) frame sent new is = tt

@@ -1,0 +1,157 @@
+-- Two shares that differ in their connection alone do the same, and a share without leases waits for no break and grants nothing.
+use Rattle.std.proofs.Common.{◌≡◌, ◌∙◌, ℕ, true, false, List, [], ◌∷◌, refl, sym, ap, Option, Some, None, Bool, not, if◌then◌else◌}
+use Rattle.std.specs.Prelude.{map, filter}
+use Rattle.std.specs.List.{list_all}
+use Rattle.smb_base.specs.declared.names.Key.{Key}
+use Rattle.share_spec.specs.declared.connection.Grant.{Grant}
+use Rattle.share_spec.specs.declared.lease.Lease.{Lease}
+use Rattle.share_spec.specs.declared.opens.Open.{Open}
+use Rattle.share_spec.specs.declared.create.Wanted.{Wanted}
+use Rattle.share_spec.specs.declared.place.Place.{Place}
+use Rattle.share_spec.specs.declared.place.Place.TheVariants.{NoPath, Missing, There}
+use Rattle.share_spec.specs.declared.request.Who.{Who}
+use Rattle.share_spec.specs.declared.request.Rep.{Rep}
+use Rattle.share_spec.specs.declared.request.Req.{Req}
+use Rattle.share_spec.specs.declared.request.Req.TheVariants as req
+use Rattle.share_spec.specs.declared.share.Share.{Share}
+use Rattle.share_spec.specs.Names.{is_name, components}
+use Rattle.share_spec.specs.Place.{place_of}
+use Rattle.share_spec.specs.Reply.{unless, refused}
+use Rattle.share_spec.specs.Create.{is_disposition, create_at, create_of, made, opened, refusal_of_missing, refusal_of_there}
+use Rattle.share_spec.specs.Close.{open_of, close_open, closed, kept_leases}
+use Rattle.share_spec.specs.Query.{query_open}
+use Rattle.share_spec.specs.Step.{step_of}
+use Rattle.share_spec.specs.Built.{is_built}
+use Rattle.share_spec.specs.PlainShare.{plain_request}
+use Rattle.share_spec.specs.Breaks.{is_refused_early, needs_in, needs_at, needs_of}
+use Rattle.share_spec.specs.Grants.{is_allowed}
+use Rattle.share_spec.specs.Cut.{all_closed, ends_with, disconnected, after_cut}
+use Rattle.fs_plain.specs.World.{grant_in}
+use Rattle.fs_plain.specs.Related.{bare}
+use Rattle.fs_plain.proofs.PlainTree.{bare_of, step_bare}
+use Rattle.share_box.specs.Truth.{IsBare}
+
+-- a request does the same, whatever was chosen
+pub step_same : (choice : Option Grant) (told own : Share) (who : Who) (r : Req) → bare told ≡ bare own → is_built r ≡ true
+    → bare_of (step_of choice told who r) ≡ bare_of (step_of None own who r)
+step_same choice told own who r tree built =
+    sym (step_bare choice None told who r built)
+    ∙ ap (λ (t : Share). step_of None t who (plain_request r)) tree
+    ∙ step_bare None None own who r built
+
+-- no break stands against a request where there is no lease
+no_needs_in : (early : Bool) (needs : List (Key × ℕ)) → needs ≡ [] → (if early then [] else needs) ≡ []
+no_needs_in true needs none = refl
+no_needs_in false needs none = none
+
+no_needs_at : (s : Share) (w : Wanted) (at : Place) → s.leases ≡ [] → needs_at s w at ≡ []
+no_needs_at s w NoPath none = refl
+no_needs_at s w (Missing d name) none = refl
+no_needs_at s w (There f) none = no_needs_in (is_refused_early s w f) (needs_in s w f.node s.leases) (ap (needs_in s w f.node) none)
+
+no_needs_if : (named : Bool) (needs : List (Key × ℕ)) → needs ≡ [] → (if named then needs else []) ≡ []
+no_needs_if true needs none = none
+no_needs_if false needs none = refl
+
+pub no_needs : (s : Share) (who : Who) (r : Req) → s.leases ≡ [] → needs_of s who r ≡ []
+no_needs s who (req.Create path access share disposition options attributes lease durable) none =
+    no_needs_if _ _ (no_needs_at s (record { access = access; share = share; disposition = disposition; options = options; attributes = attributes }) (place_of s (components path)) none)
+no_needs s who (req.Close fid) none = refl
+no_needs s who (req.Flush fid) none = refl
+no_needs s who (req.Query fid) none = refl
+no_needs s who (req.Room fid) none = refl
+no_needs s who (req.Read fid offset length) none = refl
+no_needs s who (req.Write fid offset bytes) none = refl
+no_needs s who (req.Lock fid offset length exclusive) none = refl
+no_needs s who (req.Unlock fid offset length) none = refl
+no_needs s who (req.List fid restart length) none = refl
+no_needs s who (req.SetBasic fid attributes) none = refl
+no_needs s who (req.SetEnd fid size) none = refl
+no_needs s who (req.SetPending fid on) none = refl
+no_needs s who (req.Rename fid replace path) none = refl
+no_needs s who (req.LinkTo fid replace path) none = refl
+no_needs s who (req.Ack key state) none = refl
+no_needs s who (req.Reclaim fid key) none = refl
+
+-- what is bare is allowed
+pub bare_allowed : (choice : Option Grant) (s : Share) (who : Who) (r : Req) → IsBare choice → is_allowed choice s who r ≡ true
+bare_allowed None s who r is = refl
+bare_allowed (Some grant) s who r is = is
+
+-- a reply grants nothing
+unless_grants : (refusal : Option ℕ) (s : Share) (done : Rep × Share) → IsBare (grant_in done.0.body) → IsBare (grant_in (unless refusal s done).0.body)
+unless_grants None s done is = is
+unless_grants (Some status) s done is = refl
+
+create_at_grants : (s : Share) (who : Who) (w : Wanted) (at : Place) → IsBare (grant_in (create_at s who w at).0.body)
+create_at_grants s who w NoPath = refl
+create_at_grants s who w (Missing d name) = unless_grants (refusal_of_missing s w d) s (made s who w d name) refl
+create_at_grants s who w (There f) = unless_grants (refusal_of_there s w f) s (opened s who w f) refl
+
+create_grants : (s : Share) (who : Who) (path : List ℕ) (w : Wanted) → IsBare (grant_in (create_of s who path w).0.body)
+create_grants s who path w = by (is_disposition w.disposition) (list_all is_name (components path))
+  where
+    by : (t u : Bool) → IsBare (grant_in (if not t then refused 0xC000000D s else if not u then refused 0xC0000033 s else create_at s who w (place_of s (components path))).0.body)
+    by false u = refl
+    by true false = refl
+    by true true = create_at_grants s who w (place_of s (components path))
+
+close_grants : (o : Option Open) (s : Share) → IsBare (grant_in (close_open o s).0.body)
+close_grants None s = refl
+close_grants (Some o) s = refl
+
+query_grants : (o : Option Open) (s : Share) → IsBare (grant_in (query_open o s).0.body)
+query_grants None s = refl
+query_grants (Some o) s = refl
+
+pub step_grants : (choice : Option Grant) (s : Share) (who : Who) (r : Req) → IsBare (grant_in (step_of choice s who r).0.body)
+step_grants choice s who (req.Create path access share disposition options attributes lease durable) =
+    create_grants s who path (record { access = access; share = share; disposition = disposition; options = options; attributes = attributes })
+step_grants choice s who (req.Close fid) = close_grants (open_of s.opens who fid) s
+step_grants choice s who (req.Query fid) = query_grants (open_of s.opens who fid) s
+step_grants choice s who (req.Flush fid) = refl
+step_grants choice s who (req.Room fid) = refl
+step_grants choice s who (req.Read fid offset length) = refl
+step_grants choice s who (req.Write fid offset bytes) = refl
+step_grants choice s who (req.Lock fid offset length exclusive) = refl
+step_grants choice s who (req.Unlock fid offset length) = refl
+step_grants choice s who (req.List fid restart length) = refl
+step_grants choice s who (req.SetBasic fid attributes) = refl
+step_grants choice s who (req.SetEnd fid size) = refl
+step_grants choice s who (req.SetPending fid on) = refl
+step_grants choice s who (req.Rename fid replace path) = refl
+step_grants choice s who (req.LinkTo fid replace path) = refl
+step_grants choice s who (req.Ack key state) = refl
+step_grants choice s who (req.Reclaim fid key) = refl
+
+-- opens end the same beside any connection
+all_closed_bare : (opens : List Open) (s : Share) → bare (all_closed opens s) ≡ all_closed opens (bare s)
+all_closed_bare [] s = refl
+all_closed_bare (o ∷ os) s = all_closed_bare os (closed o s)
+
+-- what a lost connection leaves of the lists of a share without leases
+left_by : Share → Share
+left_by s =
+    let left : Share = all_closed (filter (ends_with (record { 0 = 0 }) []) s.opens) s in
+    record left { opens = map (disconnected (record { 0 = 0 })) left.opens }
+
+cut_bare : (s : Share) → s.leases ≡ [] → bare (after_cut s) ≡ left_by (bare s)
+unfolding left_by
+cut_bare s none =
+    ap (λ (leases : List Lease). bare (record (all_closed (filter (ends_with (record { 0 = 0 }) leases) s.opens) s) { opens = map (disconnected (record { 0 = 0 })) (all_closed (filter (ends_with (record { 0 = 0 }) leases) s.opens) s).opens })) none
+    ∙ ap (λ (left : Share). record left { opens = map (disconnected (record { 0 = 0 })) left.opens })
+    (all_closed_bare (filter (ends_with (record { 0 = 0 }) []) s.opens) s)
+
+pub cut_same : (told own : Share) → bare told ≡ bare own → told.leases ≡ [] → own.leases ≡ [] → bare (after_cut told) ≡ bare (after_cut own)
+cut_same told own tree none none' = cut_bare told none ∙ ap left_by tree ∙ sym (cut_bare own none')
+
+kept_none : (opens : List Open) (leases : List Lease) → leases ≡ [] → kept_leases opens leases ≡ []
+kept_none opens leases none = ap (kept_leases opens) none
+
+all_closed_leases : (opens : List Open) (s : Share) → s.leases ≡ [] → (all_closed opens s).leases ≡ []
+all_closed_leases [] s none = none
+all_closed_leases (o ∷ os) s none = all_closed_leases os (closed o s) (kept_none (closed o s).opens s.leases none)
+
+-- no lease comes of it
+pub cut_leases : (s : Share) → s.leases ≡ [] → (after_cut s).leases ≡ []
+cut_leases s none = all_closed_leases (filter (ends_with (record { 0 = 0 }) s.leases) s.opens) s none

@@ -1,0 +1,99 @@
+-- What the replies of a box pay.
+use Rattle.std.specs.Prelude.{◌≡◌, ◌≤◌, ◌==◌, ℕ, Bool, true, false, not, ◌&&◌, List, [], ◌∷◌, ◌++◌, length, Option, Some, None, Result, Ok, Err}
+use Rattle.std.specs.List.{AllByRecursion}
+use Rattle.smb_head.specs.declared.first.TheConstants.{MAX_FRAME}
+use Rattle.smb_head.specs.declared.head.Head.{Head}
+use Rattle.smb_head.specs.declared.head.HeadFault.{HeadFault}
+use Rattle.smb_head.specs.Header.{head_of, header}
+use Rattle.smb_head.specs.Stream.{frame}
+use Rattle.smb_chain.specs.Parts.{parts_of}
+use Rattle.share_spec.specs.declared.connection.LastCreate.{LastCreate}
+use Rattle.share_spec.specs.declared.connection.LastCreate.TheVariants as last
+use Rattle.share_spec.specs.declared.connection.Owed.{Owed}
+use Rattle.share_spec.specs.declared.connection.Owed.TheVariants as owed
+use Rattle.share_spec.specs.declared.connection.Sent.{Sent}
+use Rattle.share_spec.specs.declared.request.RepBody.{RepBody}
+use Rattle.share_spec.specs.declared.request.RepBody.TheVariants as body
+use Rattle.share_spec.specs.Reply.{of_status}
+use Rattle.share_spec.specs.Sent.{sent_but}
+use Rattle.fs_plain.specs.Replies.{Pays}
+use Rattle.fs_plain.specs.World.{mid_of}
+use Rattle.share_box.specs.declared.bodies.Said.{Said}
+use Rattle.share_box.specs.declared.bodies.Said.TheVariants as said
+use Rattle.share_box.specs.declared.schedule.Turn.{Turn}
+use Rattle.share_box.specs.declared.schedule.Turn.TheVariants as turn
+use Rattle.share_box.specs.declared.serving.Plan.{Plan}
+use Rattle.share_box.specs.declared.serving.Plan.TheVariants as plan
+use Rattle.share_box.specs.declared.state.State.{State}
+use Rattle.share_box.specs.Bodies.{body_of}
+use Rattle.share_box.specs.Answers.{reply_head, reply_of}
+use Rattle.share_box.specs.Again.{IsBodyAgain}
+use Rattle.share_box.specs.Serving.{plan_of, done_by}
+
+-- bytes are one frame of one message, which pays what is owed
+pub record IsPayment (o : Owed) (bytes : List ℕ) : Type 0 where
+  pub message : List ℕ
+  pub framed : bytes ≡ frame message
+  pub alone : parts_of message ≡ Ok message ∷ []
+  pub fits : (64 ≤ length message) × (length message ≤ MAX_FRAME)
+  pub pays : Pays o message
+
+-- what is owed for a request that was taken, by what was to be done for it and what the reply says
+abbrev pub owed_for : Plan → Sent → Said → Owed
+owed_for plan.Aside one what = owed.Aside one.mid one.message
+owed_for (plan.Refuse status) one what = owed.Reply one.mid one.message (of_status status.0)
+owed_for (plan.Do r) one (said.Share reply) = owed.Reply one.mid one.message reply
+owed_for (plan.Do r) one other = owed.Aside one.mid one.message
+
+-- a status with which a CREATE is refused: it is neither that of success nor BUFFER_OVERFLOW, which a query that was done may have
+abbrev pub is_refusal : ℕ → Bool
+is_refusal status = not (status == 0) && not (status == 0x80000005)
+
+-- what the last CREATE before a request came to: it was refused only with such a status
+abbrev pub is_outcome : LastCreate → Bool
+is_outcome (last.Refused status) = is_refusal status.0
+is_outcome other = true
+
+-- a request waits under the id in its message, and knows of the last CREATE before it what one can come to
+pub record IsProper (one : Sent) : Type 0 where
+  pub own : one.mid ≡ mid_of one.message
+  pub outcome : is_outcome one.last_create ≡ true
+
+-- each of these waits so
+abbrev pub AreProper : List Sent → Type 0
+AreProper sent = AllByRecursion IsProper sent
+
+-- a reply has neither a lease nor a durable open to grant
+abbrev pub GrantsNothing : RepBody → Type 0
+GrantsNothing (body.Opened fid action size attributes lease durable) = (lease ≡ 0) × (durable ≡ false)
+GrantsNothing other = Unit {0}
+
+-- bytes are the frame of one message with this header, which is read again, and with the body of what it says, which is read again
+pub record IsReply (head : Head) (what : Said) (bytes : List ℕ) : Type 0 where
+  pub framed : bytes ≡ frame (header head ++ body_of what)
+  pub alone : parts_of (header head ++ body_of what) ≡ Ok (header head ++ body_of what) ∷ []
+  pub small : length (header head ++ body_of what) ≤ MAX_FRAME
+  pub read : head_of (header head ++ body_of what) ≡ Ok head
+  pub again : IsBodyAgain what
+
+-- the reply to a message, which has a header
+abbrev pub IsReplyTo : Result Head HeadFault → ℕ → Said → List ℕ → Type 0
+IsReplyTo (Err fault) credits what bytes = Unit {0}
+IsReplyTo (Ok head) credits what bytes = IsReply (reply_head head credits what) what bytes
+
+-- the reply to a request, with what is to be done for it, pays what is owed
+abbrev pub PaysAs : Option Plan → Sent → State → Type 0
+PaysAs None one b = Unit {0}
+PaysAs (Some p) one b =
+    IsProper one → IsPayment (owed_for p one (done_by p one b.share).0) (reply_of b.credits one.message (done_by p one b.share).0)
+
+-- the reply to the oldest of these pays what is owed for it
+abbrev pub PaysFirst : List Sent → State → Type 0
+PaysFirst [] b = Unit {0}
+PaysFirst (one ∷ others) b =
+    PaysAs (plan_of one) one (record b { share = record b.share { sent = sent_but one.mid others } })
+
+-- where a turn serves the oldest request that waits, its reply pays what is owed for it
+abbrev pub ServesPaid : Turn → State → Type 0
+ServesPaid (turn.Serve n) b = PaysFirst b.share.sent b
+ServesPaid other b = Unit {0}
