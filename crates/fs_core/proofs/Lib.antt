@@ -3,3 +3,8 @@ pub mod Sent
 pub mod Units
 pub mod Creates
 pub mod Waits
+mod Judging
+mod Brought
+mod Replying
+mod Asks
+pub mod Asides

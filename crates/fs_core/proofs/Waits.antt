@@ -13,11 +13,12 @@ use Rattle.smb_link.specs.declared.mark.Mark.TheVariants as mark
 use Rattle.smb_link.specs.Story.{Gains}
 use Rattle.fs_plain.specs.World.{messages_in}
 use Rattle.fs_plain.specs.View.{View, with_bytes}
-use Rattle.fs_plain.specs.Moves.{Leads}
+use Rattle.fs_plain.specs.Moves.{Leads, Leaves}
 use Rattle.fs_plain.proofs.Leading.{leads_nowhere, leads_then, leads_got, leads_quiet, leads_now}
+use Rattle.fs_plain.proofs.Leaving.{leaves_now, leads_then_leaves, leaves_shares, leaves_cut}
 use Rattle.fs_core.specs.declared.listen.Heard.{Heard}
 use Rattle.fs_core.specs.declared.listen.Heard.TheVariants as heard
-use Rattle.fs_core.specs.Hearing.{holding, handed, Hears, TakesIn}
+use Rattle.fs_core.specs.Hearing.{holding, handed, Hears, TakesIn, LeavesNothing}
 
 pub record Waits (old now : Option (List Event)) (before held : List ℕ) (quiets patience room : ℕ) : Type 0 where
   pub leads : (options : Options) (seed : List ℕ) (v : View) → v.held ≡ before → Leads options seed v (holding held v) old now
@@ -163,12 +164,57 @@ lacks_some bytes h = grind arith
 pub partial_lacks : (bytes : List ℕ) → first_of bytes ≡ Partial → 0 < lack_of bytes
 partial_lacks bytes h = rw h (lacks_some bytes h)
 
+-- the wait goes as far as this, and then the run ends
+then_leaves : (options : Options) (seed : List ℕ) (before : List ℕ) (held : List ℕ) (old now new : Option (List Event))
+    → ((options : Options) (seed : List ℕ) (v : View) → v.held ≡ before → Leads options seed v (holding held v) old now)
+    → ((options : Options) (seed : List ℕ) (v : View) → Leaves options seed (holding held v) now new)
+    → (v : View) → v.held ≡ before → Leaves options seed v old new
+then_leaves options seed before held old now new first step v is =
+    leads_then_leaves options seed v (holding held v) old now new refl (first options seed v is) (step options seed v)
+
+-- for want of memory
+pub hears_nothing : (old now new : Option (List Event)) (before held : List ℕ) (quiets patience room : ℕ) → Waits old now before held quiets patience room
+    → Gains [] now new → (options : Options) (seed : List ℕ) (v : View) → v.held ≡ before → Leaves options seed v old new
+hears_nothing old now new before held quiets patience room w gains options seed =
+    then_leaves options seed before held old now new w.leads (λ options seed v. leaves_shares options seed (holding held v) now new gains)
+
+-- with the connection
+pub hears_end : (old now new : Option (List Event)) (before held : List ℕ) (quiets patience room : ℕ) → Waits old now before held quiets patience room
+    → Gains (event.Cut ∷ []) now new → (options : Options) (seed : List ℕ) (v : View) → v.held ≡ before → Leaves options seed v old new
+hears_end old now new before held quiets patience room w gains options seed =
+    then_leaves options seed before held old now new w.leads (λ options seed v. leaves_cut options seed (holding held v) now new gains)
+
+-- with one silence more
+pub hears_silence : (old now new : Option (List Event)) (before held : List ℕ) (quiets patience room : ℕ) → Waits old now before held quiets patience room
+    → Gains (event.Quiet ∷ []) now new → (options : Options) (seed : List ℕ) (v : View) → v.held ≡ before → Leaves options seed v old new
+hears_silence old now new before held quiets patience room w gains options seed =
+    then_leaves options seed before held old now new w.leads
+    (λ options seed v. leads_then_leaves options seed (holding held v) (holding held v) now new new refl (leads_quiet options seed (holding held v) now new gains) (leaves_now options seed (holding held v) new))
+
+-- with bytes that are no frame
+pub hears_bad : (old now new : Option (List Event)) (before held bytes : List ℕ) (quiets patience room : ℕ) → Waits old now before held quiets patience room
+    → Gains (event.Got bytes ∷ []) now new → (options : Options) (seed : List ℕ) (v : View) → v.held ≡ before → Leaves options seed v old new
+hears_bad old now new before held bytes quiets patience room w gains options seed =
+    then_leaves options seed before held old now new w.leads
+    (λ options seed v.
+    leads_then_leaves options seed (holding held v) (with_bytes (messages_in (frames_in (held ++ bytes))) (rest_in (held ++ bytes)) (holding held v)) now new new refl
+    (leads_got options seed (holding held v) bytes now new gains)
+    (leaves_now options seed (with_bytes (messages_in (frames_in (held ++ bytes))) (rest_in (held ++ bytes)) (holding held v)) new))
+
 -- how a wait ends that took a piece in
 pub hears_taken : (old now new : Option (List Event)) (before held bytes rest : List ℕ) (quiets patience room : ℕ) (how : Heard) → Waits old now before held quiets patience room
     → Gains (event.Got bytes ∷ []) now new → TakesIn (held ++ bytes) rest how → length bytes ≤ lack_of held → Hears before how old new
 hears_taken old now new before held bytes rest quiets patience room (heard.Frame message) w gains whole few =
     hears_frame old now new before held bytes message rest quiets patience room w gains whole few
-hears_taken old now new before held bytes rest quiets patience room heard.Lost w gains whole few = record {}
-hears_taken old now new before held bytes rest quiets patience room heard.Silent w gains whole few = record {}
-hears_taken old now new before held bytes rest quiets patience room (heard.Bad fault) w gains whole few = record {}
-hears_taken old now new before held bytes rest quiets patience room heard.NoMemory w gains whole few = record {}
+hears_taken old now new before held bytes rest quiets patience room heard.Lost w gains whole few = absurd whole
+hears_taken old now new before held bytes rest quiets patience room heard.Silent w gains whole few = absurd whole
+hears_taken old now new before held bytes rest quiets patience room (heard.Bad fault) w gains whole few = hears_bad old now new before held bytes quiets patience room w gains
+hears_taken old now new before held bytes rest quiets patience room heard.NoMemory w gains whole few = hears_bad old now new before held bytes quiets patience room w gains
+
+-- and what it leaves behind
+pub taken_nothing : (held bytes rest : List ℕ) (how : Heard) → first_of held ≡ Partial → TakesIn (held ++ bytes) rest how → length bytes ≤ lack_of held → LeavesNothing how rest
+taken_nothing held bytes rest (heard.Frame message) partial whole few = none_behind held bytes message rest partial whole few
+taken_nothing held bytes rest heard.Lost partial whole few = record {}
+taken_nothing held bytes rest heard.Silent partial whole few = record {}
+taken_nothing held bytes rest (heard.Bad fault) partial whole few = record {}
+taken_nothing held bytes rest heard.NoMemory partial whole few = record {}

@@ -1,11 +1,11 @@
 -- What the wait for a frame leads to.
 use Rattle.std.specs.Prelude.{◌≡◌, ℕ, List, [], ◌∷◌, Option}
-use Rattle.smb_head.specs.Stream.{Whole, first_of}
+use Rattle.smb_head.specs.Stream.{Whole, Bad, first_of}
 use Rattle.fs_types.specs.declared.options.Options.{Options}
 use Rattle.smb_link.specs.declared.event.Event.{Event}
 use Rattle.fs_plain.specs.World.{messages_in}
 use Rattle.fs_plain.specs.View.{View, with_bytes}
-use Rattle.fs_plain.specs.Moves.{Leads}
+use Rattle.fs_plain.specs.Moves.{Leads, Leaves}
 use Rattle.fs_core.specs.declared.listen.Heard.{Heard}
 use Rattle.fs_core.specs.declared.listen.Heard.TheVariants as heard
 
@@ -17,14 +17,29 @@ holding held v = record v { held = held }
 abbrev pub handed : List ℕ → View → View
 handed message v = with_bytes (messages_in (message ∷ [])) [] v
 
--- whoever had a view with what was held before has, once a frame is whole, one with its parts; where the wait ended otherwise nothing is
--- said
+-- whoever had a view with what was held before has, once a frame is whole, one with its parts; where the wait ended otherwise the run ends
+abbrev pub HearsIn : List ℕ → Heard → Option (List Event) → Option (List Event) → Options → List ℕ → View → Type 0
+HearsIn held (heard.Frame message) old new options seed v = v.held ≡ held → Leads options seed v (handed message v) old new
+HearsIn held heard.Lost old new options seed v = v.held ≡ held → Leaves options seed v old new
+HearsIn held heard.Silent old new options seed v = v.held ≡ held → Leaves options seed v old new
+HearsIn held (heard.Bad fault) old new options seed v = v.held ≡ held → Leaves options seed v old new
+HearsIn held heard.NoMemory old new options seed v = v.held ≡ held → Leaves options seed v old new
+
 abbrev pub Hears : List ℕ → Heard → Option (List Event) → Option (List Event) → Type 0
-Hears held (heard.Frame message) old new =
-    (options : Options) (seed : List ℕ) (v : View) → v.held ≡ held → Leads options seed v (handed message v) old new
-Hears held other old new = Unit {0}
+Hears held result old new = (options : Options) (seed : List ℕ) (v : View) → HearsIn held result old new options seed v
 
 -- with these bytes the wait ended so, and these are left behind
 abbrev pub TakesIn : List ℕ → List ℕ → Heard → Type 0
 TakesIn bytes left (heard.Frame message) = first_of bytes ≡ Whole message left
-TakesIn bytes left other = Unit {0}
+TakesIn bytes left heard.Lost = ⊥
+TakesIn bytes left heard.Silent = ⊥
+TakesIn bytes left (heard.Bad fault) = first_of bytes ≡ Bad fault
+TakesIn bytes left heard.NoMemory = Unit {0}
+
+-- with a frame nothing is left behind
+abbrev pub LeavesNothing : Heard → List ℕ → Type 0
+LeavesNothing (heard.Frame message) left = left ≡ []
+LeavesNothing heard.Lost left = Unit {0}
+LeavesNothing heard.Silent left = Unit {0}
+LeavesNothing (heard.Bad fault) left = Unit {0}
+LeavesNothing heard.NoMemory left = Unit {0}

@@ -1,3 +1,6 @@
 pub mod Written
 pub mod Seen
+pub mod Judged
 pub mod Hearing
+pub mod Exchange
+pub mod Asking

@@ -1,14 +1,24 @@
 //! The client's core: the messages that it writes, and what it reads of the replies.
 #![tactic(auto)]
 
+mod asking;
+mod exchange;
+mod judge;
 mod listen;
 #[cfg(test)]
 mod listen_tests;
+mod part;
 mod read;
 #[cfg(test)]
 mod tests;
+mod wire;
 mod write;
 
+pub use asking::{ask, send_request, take_reply};
+pub use exchange::await_reply;
+pub use judge::final_reply;
 pub use listen::{Heard, hear};
+pub use part::{Awaited, Kind, Look};
 pub use read::{WireFault, read_reply};
+pub use wire::{MAX_FRAMES, Stop, Wire};
 pub use write::{Place, close_message, create_message, framed, plain_message, query_message};

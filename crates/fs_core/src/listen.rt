@@ -1,12 +1,12 @@
 //! The wait for a frame.
 
-ghost use Rattle.std.specs.Prelude.{◌≡◌, ◌++◌, ◌≤◌, ◌<◌, ◌∷◌, [], ℕ, IfSome, IfNone, OnOk, length};
+ghost use Rattle.std.specs.Prelude.{◌≡◌, ◌++◌, ◌≤◌, ◌<◌, ◌∷◌, [], ℕ, IfSome, IfNone, OnOk, OnErr, length};
 ghost use Rattle.smb_link.specs.declared.event.Event.TheVariants as event;
 ghost use Rattle.smb_link.specs.declared.mark.Mark.TheVariants as mark;
 ghost use Rattle.smb_link.specs.Story.{Gains};
 ghost use Rattle.smb_head.specs.Stream.{first_of, Partial};
 ghost use Rattle.fs_core.specs.declared.listen.Heard.{Heard};
-ghost use Rattle.fs_core.specs.Hearing.{Hears, TakesIn};
+ghost use Rattle.fs_core.specs.Hearing.{Hears, TakesIn, LeavesNothing};
 
 use smb_base::{Bytes, NoMemory};
 use smb_head::{FrameFault, Frames};
@@ -40,6 +40,7 @@ pub fn hear<L: Link, C: Clock>(
     requires room { 0 < length buf.old }
     requires partial { first_of frames.old ≡ Partial }
     ensures hears { Hears frames.old result (L.story link.old) (L.story link.new) }
+    ensures emptied { LeavesNothing result frames.new }
 {
     let mut quiets = 0;
     loop {
@@ -70,7 +71,8 @@ pub fn hear<L: Link, C: Clock>(
 
 /// Puts a reading of the clock into the story.
 fn tell_time<L: Link, C: Clock>(link: &mut L, clock: &mut C) -> Result<(), NoMemory>
-    ensures { OnOk result ((time : ℕ) × Gains (event.Marked (mark.Now time) ∷ []) (L.story link.old) (L.story link.new)) }
+    ensures ok { OnOk result ((time : ℕ) × Gains (event.Marked (mark.Now time) ∷ []) (L.story link.old) (L.story link.new)) }
+    ensures err { OnErr result (Gains [] (L.story link.old) (L.story link.new)) }
 {
     let now = Mark::Now(clock.now());
     link.mark(&now)

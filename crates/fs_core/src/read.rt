@@ -19,13 +19,13 @@ use smb_info::{All, InfoFault, read_all};
 use thiserror::Error;
 
 /// The command CREATE (MS-SMB2 2.2.13).
-const CREATE: u16 = 5;
+pub(crate) const CREATE: u16 = 5;
 
 /// The command CLOSE (MS-SMB2 2.2.15).
-const CLOSE: u16 = 6;
+pub(crate) const CLOSE: u16 = 6;
 
 /// The command QUERY_INFO (MS-SMB2 2.2.37).
-const QUERY_INFO: u16 = 16;
+pub(crate) const QUERY_INFO: u16 = 16;
 
 /// The oplock level that says that a lease was granted (MS-SMB2 2.2.14).
 const LEASE: u8 = 0xFF;
@@ -65,7 +65,7 @@ pub fn read_reply(command: u16, status: Status, part: &[u8]) -> Result<Rep, Wire
 }
 
 // A reply of this status to this command has the command's own body.
-fn is_done(status: Status, command: u16) -> bool
+pub(crate) fn is_done(status: Status, command: u16) -> bool
     ensures { result ≡ is_done status.0 command }
 {
     status == Status::SUCCESS || status == Status::BUFFER_OVERFLOW && command == QUERY_INFO
@@ -112,7 +112,7 @@ fn read_body(command: u16, part: &[u8]) -> Result<RepBody, WireFault>
 }
 
 // What a CREATE gave.
-fn read_opened(part: &[u8]) -> Result<RepBody, WireFault>
+pub(crate) fn read_opened(part: &[u8]) -> Result<RepBody, WireFault>
     ensures { seen_body result ≡ opened_in part.now }
 {
     match create_of(part) {

@@ -12,6 +12,7 @@ ghost use Rattle.fs_plain.specs.Requests.{asked, Asked as wire};
 ghost use Rattle.fs_plain.specs.Replies.{command_of};
 ghost use Rattle.fs_plain.specs.World.{mid_of, messages_of};
 ghost use Rattle.fs_plain.specs.Taken.{wished_attributes};
+ghost use Rattle.fs_core.specs.Asking.{IsAsideBody};
 ghost use Rattle.fs_core.specs.Written.{request_head, message_of, IsAlone, AreUnits, bytes_of_units, create_fields, close_fields, query_fields};
 
 use smb_base::{Bytes, Fid, Mid, NoMemory, Status, Units};
@@ -255,6 +256,7 @@ pub fn plain_message(
 ) -> Result<Bytes, NoMemory>
     requires { length body.now ≤ 1000000 }
     ensures whole { IfOk result (λ m. m ≡ message_of place command body.now) }
+    ensures aside { IfOk result (λ m. IsAsideBody command body.now → asked m ≡ Some wire.Aside) }
     ensures mid { IfOk result (λ m. mid_of m ≡ place.mid) }
     ensures command { IfOk result (λ m. command_of m ≡ command) }
     ensures alone { IfOk result (λ m. IsAlone m) }

@@ -2,7 +2,7 @@ use Rattle.std.proofs.Common.{◌≡◌, ◌≢◌, ◌+◌, ◌≤◌, ◌∙�
 use Rattle.std.proofs.lemmas.List.{take-append-le, length-take-le}
 use Rattle.smb_head.specs.Stream.{first_of, Partial, lack_of}
 use Rattle.fs_core.specs.Hearing.{TakesIn}
-use Rattle.fs_core.proofs.Waits.{Waits, waits_now, waits_got, waits_quiet, partial_short, partial_lacks, hears_taken}
+use Rattle.fs_core.proofs.Waits.{Waits, waits_now, waits_got, waits_quiet, partial_short, partial_lacks, hears_taken, taken_nothing, hears_nothing, hears_silence, hears_end}
 use Rattle.fs_core.proofs.listen.hear.Goals as goal
 
 pub receive-requires : goal.receive-requires
@@ -12,16 +12,40 @@ receive-requires g c =
     let room = w.some in
     omega (arith, c.min-room.ensures, c.lacks.ensures, length-take c.min-room.result c.loop-frames.buf)
 
-pub returns-in-Some : goal.returns-in-Some
-returns-in-Some g c = record {
-  hears =
-      let w = waits_now _ _ _ _ _ _ _ _ _ c.loop-frames.invariant c.in-Ok.ensures.1 in
-      let e = c.in-Bytes.ensures in
-      let piece : take c.in-Bytes.n (c.receive.new.buf ++ drop c.min-room.result c.loop-frames.buf) ≡ take c.in-Bytes.n c.receive.new.buf = take-append-le c.in-Bytes.n c.receive.new.buf (drop c.min-room.result c.loop-frames.buf) (omega (arith, e.bytes.1)) in
-      let few : length (take c.in-Bytes.n c.receive.new.buf) ≤ lack_of c.loop-frames.frames = omega (arith, e.bytes.1, c.receive.auto.buf, c.min-room.ensures, c.lacks.ensures, length-take c.min-room.result c.loop-frames.buf, length-take-le c.in-Bytes.n c.receive.new.buf (omega (arith, e.bytes.1))) in
-      hears_taken _ _ _ _ _ (take c.in-Bytes.n c.receive.new.buf) _ _ _ _ c.in-Some.heard w e.story
-      (subst (λ (p : List ℕ). TakesIn (c.loop-frames.frames ++ p) c.take_in.new.frames c.in-Some.heard) piece c.in-Some.ensures.ends) few;
-}
+pub returns-in-Some-clause-hears : goal.returns-in-Some-clause-hears
+returns-in-Some-clause-hears g c =
+    let w = waits_now _ _ _ _ _ _ _ _ _ c.loop-frames.invariant c.in-Ok.ensures.ok.1 in
+    let e = c.in-Bytes.ensures in
+    let piece : take c.in-Bytes.n (c.receive.new.buf ++ drop c.min-room.result c.loop-frames.buf) ≡ take c.in-Bytes.n c.receive.new.buf = take-append-le c.in-Bytes.n c.receive.new.buf (drop c.min-room.result c.loop-frames.buf) (omega (arith, e.bytes.1)) in
+    let few : length (take c.in-Bytes.n c.receive.new.buf) ≤ lack_of c.loop-frames.frames = omega (arith, e.bytes.1, c.receive.auto.buf, c.min-room.ensures, c.lacks.ensures, length-take c.min-room.result c.loop-frames.buf, length-take-le c.in-Bytes.n c.receive.new.buf (omega (arith, e.bytes.1))) in
+    hears_taken _ _ _ _ _ (take c.in-Bytes.n c.receive.new.buf) _ _ _ _ c.in-Some.heard w e.story
+    (subst (λ (p : List ℕ). TakesIn (c.loop-frames.frames ++ p) c.take_in.new.frames c.in-Some.heard) piece c.in-Some.ensures.ends) few
+
+pub returns-in-Some-clause-emptied : goal.returns-in-Some-clause-emptied
+returns-in-Some-clause-emptied g c =
+    let e = c.in-Bytes.ensures in
+    let piece : take c.in-Bytes.n (c.receive.new.buf ++ drop c.min-room.result c.loop-frames.buf) ≡ take c.in-Bytes.n c.receive.new.buf = take-append-le c.in-Bytes.n c.receive.new.buf (drop c.min-room.result c.loop-frames.buf) (omega (arith, e.bytes.1)) in
+    let few : length (take c.in-Bytes.n c.receive.new.buf) ≤ lack_of c.loop-frames.frames = omega (arith, e.bytes.1, c.receive.auto.buf, c.min-room.ensures, c.lacks.ensures, length-take c.min-room.result c.loop-frames.buf, length-take-le c.in-Bytes.n c.receive.new.buf (omega (arith, e.bytes.1))) in
+    taken_nothing c.loop-frames.frames (take c.in-Bytes.n c.receive.new.buf) c.take_in.new.frames c.in-Some.heard c.loop-frames.invariant.partial
+    (subst (λ (p : List ℕ). TakesIn (c.loop-frames.frames ++ p) c.take_in.new.frames c.in-Some.heard) piece c.in-Some.ensures.ends) few
+
+pub returns-in-Err-clause-hears : goal.returns-in-Err-clause-hears
+returns-in-Err-clause-hears g c = hears_nothing _ _ _ _ _ _ _ _ c.loop-frames.invariant c.in-Err.ensures.err
+
+pub returns-then-quiets-patience-clause-hears : goal.returns-then-quiets-patience-clause-hears
+returns-then-quiets-patience-clause-hears g c =
+    let w = waits_now _ _ _ _ _ _ _ _ _ c.loop-frames.invariant c.in-Ok.ensures.ok.1 in
+    hears_silence _ _ _ _ _ _ _ _ w c.in-Quiet.ensures.story
+
+pub returns-in-Closed-clause-hears : goal.returns-in-Closed-clause-hears
+returns-in-Closed-clause-hears g c =
+    let w = waits_now _ _ _ _ _ _ _ _ _ c.loop-frames.invariant c.in-Ok.ensures.ok.1 in
+    hears_end _ _ _ _ _ _ _ _ w c.in-Closed.ensures.story
+
+pub returns-in-NoMemory-clause-hears : goal.returns-in-NoMemory-clause-hears
+returns-in-NoMemory-clause-hears g c =
+    let w = waits_now _ _ _ _ _ _ _ _ _ c.loop-frames.invariant c.in-Ok.ensures.ok.1 in
+    hears_nothing _ _ _ _ _ _ _ _ w c.in-NoMemory.ensures.story
 
 pub loop-frames-smaller-in-None : goal.loop-frames-smaller-in-None
 loop-frames-smaller-in-None g c =
@@ -36,7 +60,7 @@ loop-frames-smaller-in-None g c =
 
 pub loop-frames-preserved-in-None : goal.loop-frames-preserved-in-None
 loop-frames-preserved-in-None g c =
-    let w = waits_now _ _ _ _ _ _ _ _ _ c.loop-frames.invariant c.in-Ok.ensures.1 in
+    let w = waits_now _ _ _ _ _ _ _ _ _ c.loop-frames.invariant c.in-Ok.ensures.ok.1 in
     let e = c.in-Bytes.ensures in
     let went = c.in-None.ensures.goes_on in
     let piece : take c.in-Bytes.n (c.receive.new.buf ++ drop c.min-room.result c.loop-frames.buf) ≡ take c.in-Bytes.n c.receive.new.buf = take-append-le c.in-Bytes.n c.receive.new.buf (drop c.min-room.result c.loop-frames.buf) (omega (arith, e.bytes.1)) in
@@ -48,7 +72,7 @@ loop-frames-preserved-in-None g c =
 
 pub loop-frames-preserved : goal.loop-frames-preserved
 loop-frames-preserved g c =
-    let w = waits_now _ _ _ _ _ _ _ _ _ c.loop-frames.invariant c.in-Ok.ensures.1 in
+    let w = waits_now _ _ _ _ _ _ _ _ _ c.loop-frames.invariant c.in-Ok.ensures.ok.1 in
     let long : length (c.receive.new.buf ++ drop c.min-room.result c.loop-frames.buf) ≡ length c.loop-frames.buf = omega (arith, c.receive.auto.buf, c.min-room.ensures, length-append c.receive.new.buf (drop c.min-room.result c.loop-frames.buf), length-take c.min-room.result c.loop-frames.buf, length-drop c.min-room.result c.loop-frames.buf) in
     subst (λ (n : ℕ). Waits (g.L.Link.story c.args.link.now) (g.L.Link.story c.receive.new.self) c.args.frames.now c.loop-frames.frames (c.loop-frames.quiets + 1) c.args.patience n) (sym long)
     (waits_quiet _ _ _ _ _ _ _ _ w c.in-Quiet.ensures.story (let few = c.loop-frames.invariant.few in let other : c.loop-frames.quiets + 1 ≢ c.args.patience = c.if-quiets-patience.false in omega arith))

@@ -17,3 +17,8 @@ pub returns-clause-command : goal.returns-clause-command
 returns-clause-command c =
     let is : c.of_vec.result ≡ message_of c.args.place c.args.command c.args.body.now = search rules in
     rw is (command_read c.args.place c.args.command c.args.body.now c.start.ensures.fits)
+
+pub returns-clause-aside : goal.returns-clause-aside
+returns-clause-aside c =
+    let is : c.of_vec.result ≡ message_of c.args.place c.args.command c.args.body.now = search rules in
+    λ aside. rw is (aside c.args.place c.start.ensures.fits)

@@ -1,0 +1,54 @@
+//! The wait for a reply.
+
+ghost use Rattle.std.specs.Prelude.{◌≡◌, ◌<◌, ◌≤◌, [], IfOk, length};
+ghost use Rattle.fs_core.specs.declared.wire.TheConstants.{MAX_FRAMES};
+ghost use Rattle.fs_core.specs.Exchange.{ReplyLeads};
+
+use crate::listen::{Heard, hear};
+use crate::part::{Awaited, Kind};
+use crate::wire::{Stop, Wire};
+use smb_base::Bytes;
+use smb_link::{Clock, Link};
+use std::alloc::Global;
+
+/// Waits for the final reply to the one request that is in flight: interim replies and notices are passed over. The reply is given as
+/// a message, header and body.
+///
+/// # Errors
+///
+/// The connection is lost; nothing comes for `patience` receives in a row; what comes is wrong, or one frame too many; want of memory.
+pub fn await_reply<L: Link, C: Clock>(
+    alloc: Global,
+    link: &mut L,
+    clock: &mut C,
+    wire: &mut Wire,
+    buf: &mut [u8],
+    awaited: Awaited,
+    patience: u32,
+) -> Result<Bytes, Stop>
+    requires some { 1 ≤ patience }
+    requires room { 0 < length buf.old }
+    requires empty { wire.old.frames ≡ [] }
+    requires few { wire.old.received < MAX_FRAMES }
+    ensures leads { ReplyLeads awaited result (L.story link.old) (L.story link.new) }
+    ensures empty { IfOk result (λ _. wire.new.frames ≡ []) }
+    ensures few { IfOk result (λ _. wire.new.received < MAX_FRAMES) }
+    ensures next { wire.new.next ≡ wire.old.next }
+{
+    loop {
+        match hear(link, clock, &mut wire.frames, buf, patience) {
+            Heard::Frame(frame) => match wire.take_frame(alloc, frame.as_slice(), awaited) {
+                Ok(Some(part)) => return Ok(part),
+                Ok(None) => {}
+                Err(stop) => return Err(stop),
+            },
+            Heard::Lost => return Err(Stop::Lost),
+            Heard::Silent => return Err(Stop::Silent),
+            Heard::Bad(_) => {
+                wire.received += 1;
+                return Err(Stop::Fault(Kind::Length));
+            }
+            Heard::NoMemory => return Err(Stop::NoMemory),
+        }
+    }
+}
