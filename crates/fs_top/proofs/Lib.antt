@@ -8,3 +8,7 @@ pub mod Caused
 pub mod Once
 pub mod ByCountsLaws
 pub mod Examples
+mod Steps
+mod Mounting
+mod Calling
+mod Running

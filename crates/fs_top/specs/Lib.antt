@@ -6,3 +6,4 @@ pub mod Run
 pub mod Tale
 pub mod Verdict
 pub mod Words
+pub mod Runs

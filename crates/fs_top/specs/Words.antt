@@ -18,3 +18,14 @@ pub record IsPing (words : List (List ℕ)) (host : List ℕ) (port : ℕ) : Typ
   pub host_is : IsHost host
   pub port_some : 1 ≤ port
   pub port_small : port ≤ 65535
+
+-- the words are `run HOST PORT SHARE`, with a share that may be any word that a host may be
+pub record IsRun (words : List (List ℕ)) (host : List ℕ) (port : ℕ) (share : List ℕ) : Type 0 where
+  pub words_are : words ≡ codes "run" ∷ host ∷ decimal port ∷ share ∷ []
+  pub host_is : IsHost host
+  pub share_is : IsHost share
+  pub port_some : 1 ≤ port
+  pub port_small : port ≤ 65535
+
+abbrev pub AreRun : List (List ℕ) → Type 0
+AreRun words = (host : List ℕ) × (port : ℕ) × (share : List ℕ) × IsRun words host port share

@@ -1,11 +1,19 @@
 //! The top of the program: its words, its runs and what it prints.
 #![tactic(auto)]
 
+mod ahead;
+mod call;
+mod client;
 mod ending;
 mod listen;
+mod mount;
 mod ping;
 mod print;
 mod request;
+mod run;
+mod run_end;
+#[cfg(test)]
+mod run_tests;
 #[cfg(test)]
 mod tests;
 mod top;
@@ -13,4 +21,5 @@ mod verdict;
 mod words;
 
 pub use ending::{Ending, Greeting, Kind};
+pub use run_end::End;
 pub use top::smbfs;

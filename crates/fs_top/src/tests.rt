@@ -195,7 +195,8 @@ fn other_words_are_refused_before_anything_is_done(rt: HostRuntime) {
     refuse(&rt, &["ping", "", "445"]);
     refuse(&rt, &["ping", "-h", "445"]);
     refuse(&rt, &["-ping", "h", "445"]);
-    refuse(&rt, &["run", "h", "445", "s"]);
+    refuse(&rt, &["runs", "h", "445", "s"]);
+    refuse(&rt, &["run", "h", "445"]);
 }
 
 #[test]

@@ -1,30 +1,42 @@
 //! The top call.
 
-ghost use Rattle.std.specs.Prelude.{◌≡◌, ◌≢◌, ◌⊎◌, List, map, string_bytes};
+ghost use Rattle.std.specs.Prelude.{◌≡◌, ◌≢◌, ◌⊎◌, List, [], Some, true, false, map, string_bytes};
 ghost use Rattle.smb_link.specs.declared.event.Event.{Event};
 ghost use Rattle.fs_top.specs.declared.ending.Ending.{Ending};
 ghost use Rattle.smb_link.specs.Came.{seen_by, Came};
 ghost use Rattle.fs_top.specs.Counts.{ByCounts};
 ghost use Rattle.fs_top.specs.Printing.{held_by, TookAll, TookFront};
+ghost use Rattle.fs_plain.specs.Answered.{ended_by};
+ghost use Rattle.fs_plain.specs.Moves.{PlainAnswers};
 ghost use Rattle.fs_top.specs.Run.{Ran, Causes, Printed};
+ghost use Rattle.fs_top.specs.Runs.{run_options, status_of};
+ghost use Rattle.fs_top.specs.Words.{AreRun};
 
 use crate::ending::{Ending, MEMORY_TEXT};
 use crate::ping::ping;
 use crate::print::put_all;
-use crate::words::read_ping;
+use crate::run::run_script;
+use crate::run_end::End;
+use crate::words::{read_ping, read_run};
 use smb_link::{Clock, Link, Sink, Source};
 use std::alloc::Global;
 
-/// Runs the program on its words, prints what comes of it as one line, and answers the exit status.
+/// Runs the program on its words, prints what comes of it, and answers the exit status.
 ///
-/// The words are `ping HOST PORT`: one connect, one NEGOTIATE request that offers SMB 2.1 with the seed as client id (MS-SMB2 2.2.3), and
-/// the first whole frame that comes. The source and the clock are not used.
+/// The words `ping HOST PORT` are one connect, one NEGOTIATE request that offers SMB 2.1 with the seed as client id (MS-SMB2 2.2.3), and
+/// the first whole frame that comes; one line is printed, and the source and the clock are not used.
+///
+/// The words `run HOST PORT SHARE` are a run of the script that the source gives, over that share: each line `0 stat PATH` is begun,
+/// answered and printed as `N ANSWER`, with its line's number; empty lines and comments are passed over. Up to four connects are tried;
+/// the session is an anonymous one.
 ///
 /// # Statuses
 ///
-/// 0: the server took the dialect. 1: the words are others, and nothing was done. 3: memory ran out. 4: the server took another dialect, or
-/// refused. 5: the first frame is no reply to the request. 6: the connection could not be made, was lost, or was silent for 300 receives in
-/// a row. 8: the sink refused the line; what it took is a front of it.
+/// 0: the server took the dialect; the script was read to its end, each line was answered, and the share was left. 1: the words are
+/// others, and nothing was done. 2: that line of the script is refused; the lines before it were answered, and the share was left. 3:
+/// memory ran out. 4: the server took another dialect, wants signatures, or refused the session or the share. 5: that frame is wrong. 6:
+/// no connection could be made, or it was lost, or silent for 300 receives in a row. 7: the source failed; the lines before were
+/// answered, and the share was left. 8: the sink refused what was to be printed; what it took is a front of it. 10: too many frames came.
 pub fn smbfs<S: Source, K: Sink, L: Link, C: Clock>(
     alloc: Global,
     words: &Vec<String>,
@@ -34,17 +46,56 @@ pub fn smbfs<S: Source, K: Sink, L: Link, C: Clock>(
     clock: &mut C,
     seed: [u8; 16],
 ) -> u8
+    ensures ran { (AreRun (map string_bytes words.now.items) → ⊥) → Ran (map string_bytes words.now.items) (L.stands link.old) seed
+        (seen_by L.story L.connect_faults L.cuts L.quiets link.old) (seen_by L.story L.connect_faults L.cuts L.quiets link.new)
+        (held_by K.written K.faults K.stalls out.old) (held_by K.written K.faults K.stalls out.new) result }
+    ensures counts { (AreRun (map string_bytes words.now.items) → ⊥) → ByCounts (L.stands link.old)
+        (seen_by L.story L.connect_faults L.cuts L.quiets link.old) (seen_by L.story L.connect_faults L.cuts L.quiets link.new) result }
+    ensures never { (AreRun (map string_bytes words.now.items) → ⊥) → (result ≢ 2) × (result ≢ 7) × (result ≢ 10) }
+    ensures source { (AreRun (map string_bytes words.now.items) → ⊥) → input.new ≡ input.old }
+    ensures clock { (AreRun (map string_bytes words.now.items) → ⊥) → clock.new ≡ clock.old }
+
+    // Every answer of a run is the plain client's: where the link tells its story from its beginning on, and an honest share tells one
+    // like it, the plain client has the same answers, and so have the others.
+    ensures plain { AreRun (map string_bytes words.now.items) → L.stands link.old ≡ false → L.story link.old ≡ Some []
+        → PlainAnswers run_options seed result (L.story link.new) }
+{
+    match read_run(words) {
+        Some((host, port, share)) => {
+            let end = run_script(alloc, input, out, link, clock, host, port, share, seed);
+            close(alloc, out, &end)
+        }
+        None => run_ping(alloc, words, out, link, seed),
+    }
+}
+
+/// Does one ping where the words say so, and prints what comes of it.
+fn run_ping<K: Sink, L: Link>(
+    alloc: Global,
+    words: &Vec<String>,
+    out: &mut K,
+    link: &mut L,
+    seed: [u8; 16],
+) -> u8
     ensures ran { Ran (map string_bytes words.now.items) (L.stands link.old) seed
         (seen_by L.story L.connect_faults L.cuts L.quiets link.old) (seen_by L.story L.connect_faults L.cuts L.quiets link.new)
         (held_by K.written K.faults K.stalls out.old) (held_by K.written K.faults K.stalls out.new) result }
     ensures counts { ByCounts (L.stands link.old)
         (seen_by L.story L.connect_faults L.cuts L.quiets link.old) (seen_by L.story L.connect_faults L.cuts L.quiets link.new) result }
-    ensures never { (result ≢ 2) × (result ≢ 7) × (result ≢ 9) × (result ≢ 10) }
-    ensures source { input.new ≡ input.old }
-    ensures clock { clock.new ≡ clock.old }
+    ensures never { (result ≢ 2) × (result ≢ 7) × (result ≢ 10) }
 {
     let ending = run(alloc, words, link, seed);
     finish(alloc, out, &ending)
+}
+
+/// Prints the last line of a run of a script, and answers its status; 8 where the sink refuses the line.
+fn close<K: Sink>(alloc: Global, out: &mut K, end: &End) -> u8
+    ensures { ended_by (status_of end.now) result ≡ true }
+{
+    match end.text(alloc) {
+        Ok(text) => print_line(out, text.as_str(), end.status()),
+        Err(_) => print_line(out, MEMORY_TEXT, 3),
+    }
 }
 
 /// Does what the words say.

@@ -1,0 +1,213 @@
+-- What the steps of a run lead to.
+use Rattle.std.specs.Prelude.{◌≡◌, ◌≤◌, ◌<◌, ◌+◌, ℕ, Bool, true, false, nat_le, ◌==◌, List, [], ◌∷◌, Option, Some, None, IfSome, Result, Ok, Err}
+use Rattle.std.specs.List.{list_all, list_any}
+use Rattle.smb_base.specs.declared.names.Fid.{Fid}
+use Rattle.smb_base.specs.declared.names.Mid.{Mid}
+use Rattle.share_spec.specs.declared.request.Rep.{Rep}
+use Rattle.fs_types.specs.declared.answer.Answer.{Answer}
+use Rattle.fs_types.specs.declared.call.Call.TheVariants as call
+use Rattle.fs_types.specs.declared.options.Options.{Options}
+use Rattle.smb_link.specs.declared.event.Event.{Event}
+use Rattle.smb_link.specs.declared.event.Event.TheVariants as event
+use Rattle.smb_link.specs.declared.mark.Mark.TheVariants as mark
+use Rattle.smb_link.specs.Story.{Gains}
+use Rattle.smb_names.specs.declared.fault.NameFault.{NameFault}
+use Rattle.smb_names.specs.declared.fault.NameFault.TheVariants as fault
+use Rattle.share_spec.specs.PlainShare.{shown}
+use Rattle.smb_link.specs.Program.{Own, Open, Query, Close, Program, Ask, Say, at_path, of_errno, number_of_fault}
+use Rattle.smb_link.specs.Stat.{stat_program, stat_once_open, stat_answer}
+use Rattle.fs_plain.specs.Answered.{ended_by}
+use Rattle.fs_plain.specs.View.{Item, View, fids_after, no_view}
+use Rattle.fs_plain.specs.Sends.{nth_fid}
+use Rattle.fs_plain.specs.Moves.{Going, Leads, Leaves, Over, Closes}
+use Rattle.fs_core.specs.declared.wire.Wire.{Wire}
+use Rattle.fs_core.specs.declared.wire.TheConstants.{MAX_FRAMES}
+use Rattle.fs_core.specs.Exchange.{resting}
+use Rattle.fs_core.specs.Asking.{flown, landed, MayRequest}
+use Rattle.fs_top.specs.declared.ahead.Ahead.{Ahead}
+use Rattle.fs_top.specs.declared.ahead.Asked.{Asked}
+use Rattle.fs_top.specs.declared.ahead.Found.{Found}
+use Rattle.fs_top.specs.declared.ahead.Found.TheVariants as found
+use Rattle.fs_top.specs.declared.run_end.End.{End}
+use Rattle.fs_top.specs.declared.run_end.End.TheVariants as end
+
+-- the options of every run
+abbrev pub run_options : Options
+run_options = record {
+  strict = true;
+  mapposix = true;
+  mfsymlinks = false;
+  nobrl = false;
+  ro = false;
+  file_mode = 493;
+  dir_mode = 493;
+  rsize = 65536;
+  wsize = 65536;
+  closetimeo = 1;
+  retries = 3;
+  patience = 300;
+}
+
+-- a step leads on without a change of the view; or the run ends
+abbrev pub StaysOrLeaves : {X E : Type 0} → Result X E → Option (List Event) → Option (List Event) → Type 0
+StaysOrLeaves (Ok x) old new = (options : Options) (seed : List ℕ) (v : View) → Leads options seed v v old new
+StaysOrLeaves (Err e) old new = (options : Options) (seed : List ℕ) (v : View) → Leaves options seed v old new
+
+-- a step uses these ids, and nothing is in flight after it; or the run ends
+abbrev pub RestsOrLeaves : {X E : Type 0} → Result X E → ℕ → ℕ → Option (List Event) → Option (List Event) → Type 0
+RestsOrLeaves (Ok x) before after old new =
+    (options : Options) (seed : List ℕ) (items : List Item) (begun : List ℕ) → Leads options seed (resting items begun before) (resting items begun after) old new
+RestsOrLeaves (Err e) before after old new =
+    (options : Options) (seed : List ℕ) (items : List Item) (begun : List ℕ) → Leaves options seed (resting items begun before) old new
+
+-- a connection can go on: it holds no part of a frame, and fewer frames came than may
+pub record IsReady (w : Wire) : Type 0 where
+  pub empty : w.frames ≡ []
+  pub few : w.received < MAX_FRAMES
+
+-- the lines read so far begin above the one with this number; the call that is held is of a later line
+pub record IsAhead (last : ℕ) (a : Ahead) : Type 0 where
+  pub read_on : last ≤ a.lines.number
+  pub held : IfSome a.held (λ x. (last < x.number) × (x.number ≤ a.lines.number))
+
+-- what lines bring: a call is that of the last line that was read
+abbrev pub IsToldAt : ℕ → Found → Type 0
+IsToldAt number (found.Call asked) = asked.number ≡ number
+IsToldAt number (found.Over over) = Unit {0}
+
+abbrev pub IsFound : ℕ → ℕ → Found → Type 0
+IsFound before after (found.Call asked) = (asked.number ≡ after) × (before < after)
+IsFound before after (found.Over over) = Unit {0}
+
+-- what one line brings; where it brings nothing one line more was read
+abbrev pub IsFoundLine : ℕ → ℕ → Option Found → Type 0
+IsFoundLine before after None = before < after
+IsFoundLine before after (Some x) = IsFound before after x
+
+-- a call of this line may go on: none of its requests is in flight, and its line was begun
+pub record MayGoOn (number : ℕ) (begun : List ℕ) (i : Item) : Type 0 where
+  pub number_is : i.number ≡ number
+  pub idle : i.flying ≡ None
+  pub known : list_any (λ n. n == number) begun ≡ true
+
+-- a call that has come to its answer
+pub record IsSaid (number : ℕ) (a : Answer) (i : Item) : Type 0 where
+  pub number_is : i.number ≡ number
+  pub says : i.rest ≡ Say a
+  pub idle : i.flying ≡ None
+
+-- the only call's next request is sent and answered; or the run ends
+abbrev pub Exchanges : {E : Type 0} → ℕ → Mid → List ℕ → Result Rep E → Option (List Event) → Option (List Event) → Type 0
+Exchanges number mid message (Ok reply) old new =
+    (options : Options) (seed : List ℕ) (begun : List ℕ) (i : Item) → MayRequest number mid message begun i
+    → Leads options seed (resting (i ∷ []) begun mid.0) (resting (landed reply (flown mid i) ∷ []) begun (mid.0 + 1)) old new
+Exchanges number mid message (Err e) old new =
+    (options : Options) (seed : List ℕ) (begun : List ℕ) (i : Item) → MayRequest number mid message begun i
+    → Leaves options seed (resting (i ∷ []) begun mid.0) old new
+
+-- the only call goes on, from a state of which this holds, until it has its answer; or the run ends
+abbrev pub Answers : {E : Type 0} → (Item → Type 0) → ℕ → Result Answer E → ℕ → ℕ → Option (List Event) → Option (List Event) → Type 0
+Answers P number (Ok a) before after old new =
+    (seed : List ℕ) (begun : List ℕ) (i : Item) → P i → MayGoOn number begun i
+    → (j : Item) × IsSaid number a j × Leads run_options seed (resting (i ∷ []) begun before) (resting (j ∷ []) begun after) old new
+Answers P number (Err e) before after old new =
+    (seed : List ℕ) (begun : List ℕ) (i : Item) → P i → MayGoOn number begun i
+    → Leaves run_options seed (resting (i ∷ []) begun before) old new
+
+-- a call that is to stat this path; this path on the share; once its CREATE has this reply; what it opened; and once its QUERY_INFO has this
+-- reply
+abbrev pub IsStat : List ℕ → Item → Type 0
+IsStat path i = (i.rest ≡ stat_program run_options path) × (i.fids ≡ [])
+
+abbrev pub IsStatThere : List ℕ → Item → Type 0
+IsStatThere wire i = (i.rest ≡ Ask (Open wire 0x100080 1 0) (stat_once_open run_options)) × (i.fids ≡ [])
+
+abbrev pub IsStatOpened : Rep → Item → Type 0
+IsStatOpened opened i = (i.rest ≡ stat_once_open run_options (shown opened)) × (i.fids ≡ fids_after opened [])
+
+-- the file id stays the first, whatever a later reply gives
+abbrev pub IsFirst : Fid → List Fid → Type 0
+IsFirst fid fids = (nth_fid 0 fids ≡ fid) × ((reply : Rep) → nth_fid 0 (fids_after reply fids) ≡ fid)
+
+abbrev pub IsStatOpen : Fid → Item → Type 0
+IsStatOpen fid i =
+    (i.rest ≡ Ask (Query (Own 0)) (λ info. Ask (Close (Own 0)) (λ closed. Say (stat_answer run_options info)))) × IsFirst fid i.fids
+
+abbrev pub IsStatKnown : Fid → Rep → Item → Type 0
+IsStatKnown fid info i =
+    (i.rest ≡ Ask (Close (Own 0)) (λ closed. Say (stat_answer run_options (shown info)))) × (nth_fid 0 i.fids ≡ fid)
+
+-- a path as the share has it: then a call goes on with it; or its fault, which is the call's answer
+abbrev pub IsPathOnShare : List ℕ → Result (List ℕ) NameFault → Type 0
+IsPathOnShare path (Ok wire) = (program : List ℕ → Program) → at_path run_options path program ≡ program wire
+IsPathOnShare path (Err fault.NoMemory) = Unit {0}
+IsPathOnShare path (Err why) = (program : List ℕ → Program) → at_path run_options path program ≡ Say (of_errno (number_of_fault why))
+
+-- what was done leads from a view to the end of the story of a run that ended by this status
+pub record Finishes (seed : List ℕ) (status : ℕ) (v : View) (old new : Option (List Event)) : Type 0 where
+  pub on : (begin : Option (List Event)) → Going run_options seed begin old v → Over run_options seed (ended_by status) begin new
+
+-- these lines were begun, none of them after the one with this number
+abbrev pub IsUpTo : ℕ → List ℕ → Type 0
+IsUpTo last begun = list_all (λ n. nat_le n last) begun ≡ true
+
+-- the exit status of each end
+abbrev pub status_of : End → ℕ
+status_of end.Done = 0
+status_of (end.Line number) = 2
+status_of end.Memory = 3
+status_of (end.Mount fault) = 4
+status_of (end.Frame number kind) = 5
+status_of (end.Connects number) = 6
+status_of end.Cuts = 6
+status_of end.Source = 7
+status_of end.Sink = 8
+status_of end.Frames = 10
+
+-- a run that gave up finishes the story: from where it may be no more than over
+abbrev pub FinishesOnErr : {X : Type 0} → Result X End → List ℕ → View → Option (List Event) → Option (List Event) → Type 0
+FinishesOnErr (Ok x) seed v old new = Unit {0}
+FinishesOnErr (Err e) seed v old new = Finishes seed (status_of e) v old new
+
+-- a call is begun and answered; or the story is over
+abbrev pub AnswersLine : ℕ → Result (Unit {0}) End → ℕ → ℕ → Option (List Event) → Option (List Event) → Type 0
+AnswersLine number (Ok x) before after old new =
+    (seed : List ℕ) (last : ℕ) (begun : List ℕ) → IsUpTo last begun → last < number
+    → Leads run_options seed (resting [] begun before) (resting [] (number ∷ begun) after) old new
+AnswersLine number (Err e) before after old new =
+    (seed : List ℕ) (last : ℕ) (begun : List ℕ) → IsUpTo last begun → last < number
+    → Finishes seed (status_of e) (resting [] begun before) old new
+
+-- a line's call is begun
+abbrev pub BeginsLine : {E : Type 0} → Asked → Result (Unit {0}) E → Option (List Event) → Option (List Event) → Type 0
+BeginsLine asked (Ok x) old new = Gains (event.Marked (mark.Begin asked.number asked.lane (call.Stat asked.path)) ∷ []) old new
+BeginsLine asked (Err e) old new = Gains [] old new
+
+-- the error number of a call that is unanswered at an end, where it has one
+abbrev pub errno_by : End → Option ℕ
+errno_by (end.Frame number kind) = Some 71
+errno_by end.Cuts = Some 112
+errno_by other = None
+
+-- the calls of a script are begun and answered; or the story is over
+abbrev pub AnswersAll : {X : Type 0} → Result X End → ℕ → ℕ → Option (List Event) → Option (List Event) → Type 0
+AnswersAll (Ok x) before after old new =
+    (seed : List ℕ) → (begun : List ℕ) × Leads run_options seed (resting [] [] before) (resting [] begun after) old new
+AnswersAll (Err e) before after old new = (seed : List ℕ) → Finishes seed (status_of e) (resting [] [] before) old new
+
+-- an answer of the only call, which has come to it, is put into the story; or the run ends
+abbrev pub AnswerTold : ℕ → Answer → Result (Unit {0}) End → Option (List Event) → Option (List Event) → Type 0
+AnswerTold number a (Ok x) old new = Gains (event.Marked (mark.Answer number a) ∷ []) old new
+AnswerTold number a (Err end.Sink) old new = Gains (event.Marked (mark.Answer number a) ∷ []) old new
+AnswerTold number a (Err e) old new = (e ≡ end.Memory) × Gains [] old new
+
+-- a run that gives up answers the call that is unanswered, and the story is over
+abbrev pub GivesUp : ℕ → End → Option (List Event) → Option (List Event) → Type 0
+GivesUp number e old new =
+    (seed : List ℕ) (numbers : List ℕ) → list_any (λ n. n == number) numbers ≡ true
+    → Closes run_options seed numbers (ended_by (status_of e)) old new
+
+-- the connection is made, from where none stood; or the run ends
+abbrev pub Joins : Bool → Result (Unit {0}) End → Option (List Event) → Option (List Event) → Type 0
+Joins stood (Ok x) old new = stood ≡ false → (options : Options) (seed : List ℕ) → Leads options seed no_view (resting [] [] 0) old new
+Joins stood (Err e) old new = stood ≡ false → (options : Options) (seed : List ℕ) → Leaves options seed no_view old new

@@ -1,0 +1,141 @@
+//! How a run of a script ends: its status, and the line that is printed last.
+
+ghost use Rattle.std.specs.Prelude.{◌≡◌};
+ghost use Rattle.fs_top.specs.Runs.{status_of};
+
+use fs_core::{Kind, Stop};
+use smb_base::{NoMemory, Status, Text};
+use smb_mount::MountFault;
+use std::alloc::Global;
+
+/// How a run of a script ends.
+#[derive(Clone, Copy, Debug, PartialEq, Eq)]
+pub enum End {
+    /// The script was read to its end, and the share was left: status 0.
+    Done,
+    /// The line with this number was refused; the calls before it were answered, and the share was left: status 2.
+    Line(u64),
+    /// Memory ran out: status 3.
+    Memory,
+    /// The server refused the mount: status 4.
+    Mount(MountFault),
+    /// The frame with this number was wrong: status 5.
+    Frame(u32, Kind),
+    /// As many connects in a row failed: status 6.
+    Connects(u32),
+    /// The connection was lost, or nothing came for too long: status 6.
+    Cuts,
+    /// The source failed; the calls before it were answered, and the share was left: status 7.
+    Source,
+    /// The sink refused what was to be printed: status 8.
+    Sink,
+    /// As many frames came as a run may take: status 10.
+    Frames,
+}
+
+impl End {
+    /// The end of a run that stops so, after so many frames.
+    pub fn of(stop: Stop, frames: u32) -> End {
+        match stop {
+            Stop::NoMemory => End::Memory,
+            Stop::Lost => End::Cuts,
+            Stop::Silent => End::Cuts,
+            Stop::Fault(kind) => End::Frame(frames, kind),
+            Stop::Frames => End::Frames,
+        }
+    }
+
+    /// The exit status of the program.
+    pub fn status(&self) -> u8
+        ensures { result ≡ status_of self.now }
+    {
+        match self {
+            End::Done => 0,
+            End::Line(_) => 2,
+            End::Memory => 3,
+            End::Mount(_) => 4,
+            End::Frame(_, _) => 5,
+            End::Connects(_) => 6,
+            End::Cuts => 6,
+            End::Source => 7,
+            End::Sink => 8,
+            End::Frames => 10,
+        }
+    }
+
+    /// The line that is printed last; none at status 0 and 8. It fails only for want of memory.
+    pub fn text(&self, alloc: Global) -> Result<Text, NoMemory> {
+        match self {
+            End::Done => Text::of(alloc, ""),
+            End::Line(number) => line_text(alloc, *number),
+            End::Memory => Text::of(alloc, "fault 3 memory\n"),
+            End::Mount(fault) => mount_text(alloc, *fault),
+            End::Frame(number, kind) => frame_text(alloc, *number, *kind),
+            End::Connects(number) => connects_text(alloc, *number),
+            End::Cuts => Text::of(alloc, "fault 6 cuts 1\n"),
+            End::Source => Text::of(alloc, "fault 7 source\n"),
+            End::Sink => Text::of(alloc, ""),
+            End::Frames => Text::of(alloc, "fault 10 frames\n"),
+        }
+    }
+}
+
+fn line_text(alloc: Global, number: u64) -> Result<Text, NoMemory> {
+    let text = format!(in alloc; "fault 2 line {number}\n")?;
+    Ok(Text::of_string(text))
+}
+
+fn connects_text(alloc: Global, number: u32) -> Result<Text, NoMemory> {
+    let text = format!(in alloc; "fault 6 connects {number}\n")?;
+    Ok(Text::of_string(text))
+}
+
+fn frame_text(alloc: Global, number: u32, kind: Kind) -> Result<Text, NoMemory> {
+    let word = kind_word(kind);
+    let text = format!(in alloc; "fault 5 frame {number} {word}\n")?;
+    Ok(Text::of_string(text))
+}
+
+fn kind_word(kind: Kind) -> &'static str {
+    match kind {
+        Kind::Length => "length",
+        Kind::Head => "head",
+        Kind::Chain => "chain",
+        Kind::Stranger => "stranger",
+        Kind::Body => "body",
+        Kind::Info => "info",
+        Kind::Credit => "credit",
+    }
+}
+
+fn mount_text(alloc: Global, fault: MountFault) -> Result<Text, NoMemory> {
+    match fault {
+        MountFault::Dialect(dialect) => dialect_text(alloc, dialect),
+        MountFault::SigningRequired => Text::of(alloc, "fault 4 mount signing\n"),
+        MountFault::Session(status) => status_text(alloc, "session", status),
+        MountFault::NotGuest => Text::of(alloc, "fault 4 mount guest\n"),
+        MountFault::Tree(status) => status_text(alloc, "tree", status),
+        MountFault::NotDisk(kind) => disk_text(alloc, kind),
+        MountFault::Malformed(_) => Text::of(alloc, ""),
+        MountFault::NoMemory => Err(NoMemory),
+    }
+}
+
+// A dialect in four upper-case hex digits.
+fn dialect_text(alloc: Global, dialect: u16) -> Result<Text, NoMemory> {
+    let digits = hex::encode_upper(alloc, [(dialect / 256) as u8, (dialect % 256) as u8])?;
+    let text = format!(in alloc; "fault 4 mount dialect 0x{digits}\n")?;
+    Ok(Text::of_string(text))
+}
+
+// A status in eight upper-case hex digits.
+fn status_text(alloc: Global, word: &str, status: Status) -> Result<Text, NoMemory> {
+    let digits = hex::encode_upper(alloc, status.0.to_be_bytes())?;
+    let text = format!(in alloc; "fault 4 mount {word} {digits}\n")?;
+    Ok(Text::of_string(text))
+}
+
+fn disk_text(alloc: Global, kind: u8) -> Result<Text, NoMemory> {
+    let text = format!(in alloc; "fault 4 mount disk {kind}\n")?;
+    Ok(Text::of_string(text))
+}

@@ -1,0 +1,134 @@
+//! Runs of scripts over a box with a share behind it.
+
+use super::*;
+use share_box::{BoxLink, Schedule, Turn, TurnList};
+use share_spec::Req;
+use smb_base::{Bytes, Fid, U64List, Units};
+use smb_head::read_head;
+use smb_link::{Event, Mark, MemClock, MemSink, SureSource};
+use std::alloc::AllocGlobal;
+use std::process::Abort;
+use std::test::Fail;
+
+const SEED: [u8; 16] = [0, 1, 2, 3, 4, 5, 6, 7, 8, 9, 10, 11, 12, 13, 14, 15];
+
+/// What a run answered, printed and told.
+#[derive(Drop)]
+struct Outcome {
+    status: u8,
+    sink: MemSink,
+    link: BoxLink,
+}
+
+fn word(rt: &(impl Abort + AllocGlobal), text: &str) -> String {
+    String::from_str(rt.alloc(), text).expect(rt, "memory")
+}
+
+fn words(rt: &(impl Abort + AllocGlobal)) -> Vec<String> {
+    let mut list = Vec::new(rt.alloc());
+    list.push(word(rt, "run")).expect(rt, "memory");
+    list.push(word(rt, "h")).expect(rt, "memory");
+    list.push(word(rt, "445")).expect(rt, "memory");
+    list.push(word(rt, "s")).expect(rt, "memory");
+    list
+}
+
+fn sink(rt: &(impl Abort + AllocGlobal), fail: &[u64]) -> MemSink {
+    MemSink::new(
+        rt.alloc(),
+        U64List::of(rt.alloc(), fail).expect(rt, "memory"),
+    )
+}
+
+fn clock(rt: &(impl Abort + AllocGlobal)) -> MemClock {
+    MemClock::new(U64List::of(rt.alloc(), &[0]).expect(rt, "memory"))
+}
+
+/// A run of this script over a box with these turns.
+fn run(rt: &(impl Abort + AllocGlobal), script: &str, turns: TurnList) -> Outcome {
+    let mut link = BoxLink::new(rt.alloc(), 1_000_000, false, 32, Schedule::List(turns)).expect(
+        rt, "memory",
+    );
+    let mut input = SureSource::new(Bytes::of(rt.alloc(), script.as_bytes()).expect(rt, "memory"));
+    let mut out = sink(rt, &[]);
+    let mut time = clock(rt);
+    let status = smbfs(
+        rt.alloc(),
+        &words(rt),
+        &mut input,
+        &mut out,
+        &mut link,
+        &mut time,
+        SEED,
+    );
+    Outcome {
+        status,
+        sink: out,
+        link,
+    }
+}
+
+fn plain(rt: &(impl Abort + AllocGlobal), script: &str) -> Outcome {
+    run(rt, script, TurnList::new(rt.alloc()))
+}
+
+fn prints(rt: &(impl Abort + AllocGlobal), outcome: &Outcome, status: u8, text: &str) {
+    assert_eq!(rt; outcome.sink.written(), text.as_bytes());
+    assert_eq!(rt; outcome.status, status);
+}
+
+/// The commands of the frames that were sent, each as a byte.
+fn commands(rt: &(impl Abort + AllocGlobal), outcome: &Outcome) -> Vec<u8> {
+    let mut list = Vec::new(rt.alloc());
+    for event in outcome.link.story().as_slice() {
+        if let Event::Sent(frame) = event {
+            list.push(command_of(frame.as_slice())).expect(rt, "memory");
+        }
+    }
+    list
+}
+
+fn command_of(frame: &[u8]) -> u8 {
+    match frame.get(16) {
+        Some(byte) => *byte,
+        None => 255,
+    }
+}
+
+#[test]
+fn an_empty_script_mounts_and_leaves_with_six_requests(rt: HostRuntime) {
+    let outcome = plain(&rt, "");
+    prints(&rt, &outcome, 0, "");
+    assert_eq!(rt;
+        commands(&rt, &outcome).as_slice(),
+        [0, 1, 1, 3, 4, 2].as_slice()
+    );
+}
+
+#[test]
+fn three_stats_answer_the_root_and_two_missing_names(rt: HostRuntime) {
+    let outcome = plain(&rt, "0 stat /\n0 stat /a\n0 stat /b/c\n");
+    prints(
+        &rt,
+        &outcome,
+        0,
+        "1 stat dir 0 0755 1 1\n2 err 2\n3 err 2\n",
+    );
+    assert_eq!(rt;
+        commands(&rt, &outcome).as_slice(),
+        [0, 1, 1, 3, 5, 16, 6, 5, 5, 4, 2].as_slice()
+    );
+}
+
+#[test]
+fn a_refused_line_ends_the_script_once_the_calls_before_it_are_answered(rt: HostRuntime) {
+    prints(&rt, &plain(&rt, "0 fly /a\n"), 2, "fault 2 line 1\n");
+    prints(
+        &rt,
+        &plain(&rt, "# c\n\n0 stat /\nx"),
+        2,
+        "3 stat dir 0 0755 1 1\nfault 2 line 4\n",
+    );
+    prints(&rt, &plain(&rt, "0 stat /\r\n"), 2, "fault 2 line 1\n");
+    prints(&rt, &plain(&rt, "0 stat /"), 0, "1 stat dir 0 0755 1 1\n");
+}
