@@ -4,8 +4,7 @@ use super::*;
 use share_box::{BoxLink, Schedule, Turn, TurnList};
 use share_spec::Req;
 use smb_base::{Bytes, Fid, U64List, Units};
-use smb_head::read_head;
-use smb_link::{Event, Mark, MemClock, MemSink, SureSource};
+use smb_link::{Event, MemClock, MemSink, SureSource};
 use std::alloc::AllocGlobal;
 use std::process::Abort;
 use std::test::Fail;
@@ -131,4 +130,93 @@ fn a_refused_line_ends_the_script_once_the_calls_before_it_are_answered(rt: Host
     );
     prints(&rt, &plain(&rt, "0 stat /\r\n"), 2, "fault 2 line 1\n");
     prints(&rt, &plain(&rt, "0 stat /"), 0, "1 stat dir 0 0755 1 1\n");
+}
+
+/// These turns, the first one this often.
+fn turns(rt: &(impl Abort + AllocGlobal), times: u32, first: Turn, second: Turn) -> TurnList {
+    let mut list = TurnList::new(rt.alloc());
+    for _ in 1..times {
+        list.push(copy_of(&first)).expect(rt, "memory");
+    }
+    list.push(first).expect(rt, "memory");
+    list.push(second).expect(rt, "memory");
+    list
+}
+
+/// A turn that is more than once in a list.
+fn copy_of(turn: &Turn) -> Turn {
+    match turn {
+        Turn::RefuseConnect => Turn::RefuseConnect,
+        Turn::Serve(place) => Turn::Serve(*place),
+        _ => Turn::Quiet,
+    }
+}
+
+#[test]
+fn a_file_that_another_client_made_is_answered(rt: HostRuntime) {
+    let made = Req::Create {
+        path: Units::of(rt.alloc(), &[0x61]).expect(&rt, "memory"),
+        access: 0x80,
+        share: 7,
+        disposition: 2,
+        options: 0,
+        attributes: 0x80,
+        lease: None,
+        durable: false,
+    };
+    let closed = Req::Close {
+        fid: Fid {
+            persistent: 1,
+            volatile: 1,
+        },
+    };
+    let list = turns(&rt, 1, Turn::Act(1, made), Turn::Act(1, closed));
+    prints(
+        &rt,
+        &run(&rt, "0 stat /a\n", list),
+        0,
+        "1 stat file 0 0755 1 2\n",
+    );
+}
+
+#[test]
+fn three_refused_connects_are_borne_and_a_fourth_ends_the_run(rt: HostRuntime) {
+    let list = turns(&rt, 3, Turn::RefuseConnect, Turn::Serve(0));
+    prints(
+        &rt,
+        &run(&rt, "0 stat /\n", list),
+        0,
+        "1 stat dir 0 0755 1 1\n",
+    );
+    let list = turns(&rt, 4, Turn::RefuseConnect, Turn::Serve(0));
+    prints(
+        &rt,
+        &run(&rt, "0 stat /\n", list),
+        6,
+        "fault 6 connects 4\n",
+    );
+}
+
+#[test]
+fn a_lost_connection_answers_the_call_and_ends_the_run(rt: HostRuntime) {
+    let list = turns(&rt, 6, Turn::Serve(0), Turn::Cut);
+    prints(
+        &rt,
+        &run(&rt, "0 stat /\n", list),
+        6,
+        "1 err 112\nfault 6 cuts 1\n",
+    );
+}
+
+#[test]
+fn three_hundred_silences_end_the_run_and_fewer_are_borne(rt: HostRuntime) {
+    let list = turns(&rt, 299, Turn::Quiet, Turn::Serve(0));
+    prints(
+        &rt,
+        &run(&rt, "0 stat /\n", list),
+        0,
+        "1 stat dir 0 0755 1 1\n",
+    );
+    let list = turns(&rt, 300, Turn::Quiet, Turn::Serve(0));
+    prints(&rt, &run(&rt, "0 stat /\n", list), 6, "fault 6 cuts 1\n");
 }
