@@ -10,25 +10,14 @@ import threading
 import time
 
 import peers
+from smb import error, frame, message
 
 PROGRAM = sys.argv[1]
 GUID = bytes(range(0xF0, 0x100))
 
 
-def message(magic=b"\xfeSMB", size=64, status=0, command=0, flags=1, nxt=0, mid=0, body=b""):
-    return (magic + struct.pack("<HHIHHIIQIIQ", size, 0, status, command, 1, flags, nxt, mid, 0, 0, 0) + bytes(16) + body)
-
-
 def reply(size=65, dialect=0x0210, caps=6, transact=1048576, read=524288, write=262144, offset=128, length=0, buffer=b""):
     return struct.pack("<HHHH16sIIIIQQHHI", size, 1, dialect, 0, GUID, caps, transact, read, write, 0, 0, offset, length, 0) + buffer
-
-
-def error(count=0, data=b""):
-    return struct.pack("<HBBI", 9, 0, 0, count) + data
-
-
-def frame(data, first=0, length=None):
-    return bytes([first]) + struct.pack(">I", len(data) if length is None else length)[1:] + data
 
 
 def bad(kind):
