@@ -1,6 +1,7 @@
 """`smbfs run` against a small server of this machine, whose share holds a root and two files: what it printed must be what that share says,
 and its requests those of a mount, of each call and of the leave, in this order."""
 import os
+import shutil
 import socket
 import struct
 import subprocess
@@ -211,6 +212,38 @@ done = subprocess.run([PROGRAM, "run", "127.0.0.1", str(peers.free_port()), "s"]
 if (done.returncode, done.stdout) != (6, b"fault 6 connects 4\n"):
     failed += 1
     peers.say("run", f"a closed port: {done}")
+
+
+
+def stat_line(number, path):
+    """What the folder of the server says of this file."""
+    said = os.stat(path)
+    directory = os.path.isdir(path)
+    return f"{number} stat {'dir 0' if directory else f'file {said.st_size}'} 0755 {1 if directory else said.st_nlink} {said.st_ino}\n"
+
+
+if shutil.which("smbd"):
+    samba = peers.Samba()
+    try:
+        for name, data in [("a", b"hello"), ("d/b", bytes(100000))]:
+            os.makedirs(os.path.dirname(os.path.join(samba.share, name)), exist_ok=True)
+            with open(os.path.join(samba.share, name), "wb") as f:
+                f.write(data)
+        os.link(os.path.join(samba.share, "a"), os.path.join(samba.share, "c"))
+        names = ["", "a", "d", "d/b", "c"]
+        script = "".join(f"0 stat /{name}\n" for name in names) + "0 stat /none\n" + 1000 * "0 stat /a\n"
+        want = "".join(stat_line(at, os.path.join(samba.share, name)) for at, name in enumerate(names, 1)) + "6 err 2\n"
+        want += "".join(stat_line(at, os.path.join(samba.share, "a")) for at in range(7, 1007))
+        for share, printed in [("share", (0, want)), ("none", (4, "fault 4 mount tree C00000CC\n"))]:
+            done = subprocess.run([PROGRAM, "run", "127.0.0.1", str(samba.port), share], input=script.encode(), capture_output=True, timeout=60)
+            if (done.returncode, done.stdout.decode()) != printed or done.stderr:
+                failed += 1
+                peers.say("run", f"Samba's share {share}: {done.returncode}, {done.stdout[:400]}, {done.stderr}")
+        peers.say("run", f"{peers.version('smbd', '--version')}: its answers are those of its folder")
+    finally:
+        samba.end()
+else:
+    peers.say("run", "Samba's part is skipped, no smbd")
 
 peers.say("run", "failed" if failed else "all as it should be")
 sys.exit(1 if failed else 0)
