@@ -216,7 +216,8 @@ if (done.returncode, done.stdout) != (6, b"fault 6 connects 4\n"):
 
 
 def stat_line(number, path):
-    """What the folder of the server says of this file."""
+    """What the folder of the server says of this file. Of a directory the size 0 and the one link are what a run against Samba printed: the
+    folder has others, so these two fields check nothing but that they stay."""
     said = os.stat(path)
     directory = os.path.isdir(path)
     return f"{number} stat {'dir 0' if directory else f'file {said.st_size}'} 0755 {1 if directory else said.st_nlink} {said.st_ino}\n"
@@ -239,7 +240,7 @@ if shutil.which("smbd"):
             if (done.returncode, done.stdout.decode()) != printed or done.stderr:
                 failed += 1
                 peers.say("run", f"Samba's share {share}: {done.returncode}, {done.stdout[:400]}, {done.stderr}")
-        peers.say("run", f"{peers.version('smbd', '--version')}: its answers are those of its folder")
+        peers.say("run", f"{peers.version('smbd', '--version')}: its answers are those of its folder, but for the size and links of a directory")
     finally:
         samba.end()
 else:
