@@ -2,14 +2,13 @@
 import os
 import re
 import shutil
-import signal
 import subprocess
 import sys
 import tempfile
-import time
 import xml.etree.ElementTree as xml
 
 import peers
+import smb
 
 CHECK = "capture"
 HERE = os.path.dirname(os.path.abspath(__file__))
@@ -20,11 +19,6 @@ PENDING, MORE, OVERFLOW = 0x103, 0xC0000016, 0x80000005
 SCRIPT = ("ls; put {0}/a a; put {0}/a e; ls a; allinfo a; setmode a +r; setmode a -r; get a {0}/got; "
           "mkdir dir; put {0}/a dir/f; put {0}/a dir/gg; ls dir/*; rename e f; hardlink f h; del f; del h; "
           "get x {0}/none; mkdir g; rmdir g; volume; du; echo 1 hello; tdis; logoff")
-
-
-def smbclient(port, script, folder):
-    return ["smbclient", "//127.0.0.1/share", "-p", str(port), "-U%", "--option=client min protocol=SMB2_10",
-            "--option=client max protocol=SMB2_10", f"--option=lock directory={folder}", "-c", script]
 
 
 def with_impacket():
@@ -42,16 +36,7 @@ class Message:
 
     def __init__(self, stream, source, data):
         self.stream, self.source, self.data, self.fields = stream, source, data, []
-        self.command, self.status = int.from_bytes(data[12:14], "little"), int.from_bytes(data[8:12], "little")
-        self.is_reply, self.id = data[16] & 1 == 1, int.from_bytes(data[24:32], "little")
-
-
-def parts(frame):
-    """The messages of a frame, by NextCommand."""
-    while frame:
-        following = int.from_bytes(frame[20:24], "little")
-        yield frame[:following] if following else frame
-        frame = frame[following:] if following else b""
+        self.command, self.status, self.is_reply, self.id = smb.command(data), smb.status(data), smb.is_reply(data), smb.message_id(data)
 
 
 def reading(field):
@@ -64,16 +49,11 @@ def messages(file, port):
     tshark = ["tshark", "-n", "-r", file, "-d", f"tcp.port=={port},nbss"]
     columns = [word for name in ("stream", "srcport", "payload") for word in ("-e", f"tcp.{name}")]
     raw = subprocess.run([*tshark, "-Y", "tcp.len > 0", "-T", "fields", *columns], capture_output=True, text=True, timeout=120).stdout
-    open_frames, cut = {}, {}
+    streams = {}
     for line in raw.splitlines():
         stream, source, payload = line.split("\t")
-        way = int(stream), int(source)
-        waiting = open_frames.get(way, b"") + bytes.fromhex(payload)
-        while len(waiting) >= 4 and len(waiting) >= 4 + int.from_bytes(waiting[1:4], "big"):
-            size = int.from_bytes(waiting[1:4], "big")
-            cut.setdefault(way, []).extend(Message(*way, part) for part in parts(waiting[4:4 + size]))
-            waiting = waiting[4 + size:]
-        open_frames[way] = waiting
+        streams.setdefault((int(stream), int(source)), bytearray()).extend(bytes.fromhex(payload))
+    cut = {way: [Message(*way, part) for frame in smb.frames(bytes(data)) for part in smb.parts(frame)] for way, data in streams.items()}
     pdml = subprocess.run([*tshark, "-Y", "smb2", "-T", "pdml"], capture_output=True, timeout=120).stdout
     seen = dict.fromkeys(cut, 0)
     for packet in xml.fromstring(pdml).iter("packet"):
@@ -158,19 +138,11 @@ def main():
             return 0
         with open(os.path.join(folder, "a"), "w") as f:
             f.write("hello")
-        file, log = os.path.join(folder, "packets"), os.path.join(folder, "log")
-        with open(log, "w") as out:
-            sniffer = subprocess.Popen(
-                ["tshark", "-n", "-i", "lo", "-f", f"tcp port {server.port}", "-w", file, "-a", "duration:120"],
-                stdin=subprocess.DEVNULL, stdout=out, stderr=out)
-        end = time.time() + 20
-        while "Capturing on" not in open(log).read() and time.time() < end and sniffer.poll() is None:
-            time.sleep(0.1)
-        if sniffer.poll() is not None or time.time() >= end:
+        sniffer = peers.Capture(server.port, folder)
+        if not sniffer.up:
             peers.say(CHECK, "skipped, tshark may not capture on lo")
             return 0
-        time.sleep(1)
-        done = subprocess.run(smbclient(server.port, SCRIPT.format(folder), folder),
+        done = subprocess.run(peers.smbclient(server.port, SCRIPT.format(folder), folder),
                               stdin=subprocess.DEVNULL, capture_output=True, text=True, timeout=60)
         if "-v" in sys.argv:
             print(done.stdout, done.stderr)
@@ -178,7 +150,7 @@ def main():
         if python is None:
             peers.say(CHECK, "no impacket: smbclient's messages alone")
         else:
-            breaker = smbclient(server.port, f"get a {folder}/again", folder)
+            breaker = peers.smbclient(server.port, f"get a {folder}/again", folder)
             done = subprocess.run([python, os.path.join(HERE, "capture_client.py"), str(server.port), "share", *breaker],
                                   stdin=subprocess.DEVNULL, capture_output=True, text=True, timeout=90)
             if done.returncode != 0:
@@ -186,10 +158,8 @@ def main():
                 if "-v" in sys.argv:
                     print(done.stdout, done.stderr)
             own_ports = [int(word) for word in done.stdout.split()[-20:] if word.isdigit()]
-        time.sleep(1)
-        sniffer.send_signal(signal.SIGINT)
-        sniffer.wait(timeout=20)
-        best = kinds(messages(file, server.port), own_ports)
+        sniffer.end()
+        best = kinds(messages(sniffer.file, server.port), own_ports)
         print("server:", peers.version("smbd", "--version"))
         print("clients: smbclient", peers.version("smbclient", "--version"), "and impacket",
               python and peers.version(python, "-c", "import importlib.metadata as m; print(m.version('impacket'))"))
@@ -205,9 +175,8 @@ def main():
         peers.say(CHECK, f"{len(best)} kinds" + (", none of " + ", ".join(missing) if missing else ""))
         return 1 if missing and python else 0
     finally:
-        if sniffer and sniffer.poll() is None:
-            sniffer.terminate()
-            sniffer.wait(timeout=20)
+        if sniffer:
+            sniffer.end()
         server.end()
         shutil.rmtree(folder, ignore_errors=True)
 

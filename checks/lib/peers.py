@@ -1,4 +1,4 @@
-"""Peers of the checks: a port of this machine, a Samba server with a folder of its own, impacket's server."""
+"""Peers of the checks: a port of this machine, a Samba server with a folder of its own, smbclient, and what listens to their traffic."""
 import os
 import shutil
 import signal
@@ -6,6 +6,7 @@ import socket
 import subprocess
 import sys
 import tempfile
+import threading
 import time
 
 
@@ -85,6 +86,88 @@ class Samba:
         except (ProcessLookupError, subprocess.TimeoutExpired):
             pass
         shutil.rmtree(self.folder, ignore_errors=True)
+
+
+def smbclient(port, script, folder):
+    """The words that run a script of smbclient's in dialect 2.1, as an anonymous user; what it keeps goes into the folder."""
+    return ["smbclient", "//127.0.0.1/share", "-p", str(port), "-U%", "--option=client min protocol=SMB2_10",
+            "--option=client max protocol=SMB2_10", f"--option=lock directory={folder}", "-c", script]
+
+
+class Relay:
+    """Takes one connection at a port of its own, hands its bytes on to another port of this machine and back, and keeps them."""
+
+    def __init__(self, to):
+        self.to, self.sent, self.got = to, bytearray(), bytearray()
+        self.listener = socket.socket()
+        self.listener.bind(("127.0.0.1", 0))
+        self.listener.settimeout(60)
+        self.port = self.listener.getsockname()[1]
+        self.thread = threading.Thread(target=self.serve)
+
+    def start(self):
+        self.listener.listen(1)
+        self.thread.start()
+
+    def end(self):
+        self.thread.join(90)
+        self.listener.close()
+
+    def serve(self):
+        try:
+            client, _ = self.listener.accept()
+        except OSError:
+            return
+        with client, socket.create_connection(("127.0.0.1", self.to)) as server:
+            back = threading.Thread(target=self.carry, args=(server, client, self.got))
+            back.start()
+            self.carry(client, server, self.sent)
+            back.join(60)
+
+    def carry(self, source, to, kept):
+        source.settimeout(60)
+        to.setsockopt(socket.IPPROTO_TCP, socket.TCP_NODELAY, 1)
+        try:
+            while data := source.recv(65536):
+                kept.extend(data)
+                to.sendall(data)
+            to.shutdown(socket.SHUT_WR)
+        except OSError:
+            pass
+
+
+class Capture:
+    """What tshark captures of a port of this machine, into a file of the folder. Ended by its pid."""
+
+    def __init__(self, port, folder):
+        self.file, log = os.path.join(folder, "packets"), os.path.join(folder, "log")
+        with open(log, "w") as out:
+            self.process = subprocess.Popen(
+                ["tshark", "-n", "-i", "lo", "-f", f"tcp port {port}", "-w", self.file, "-a", "duration:120"],
+                stdin=subprocess.DEVNULL, stdout=out, stderr=out)
+        end = time.time() + 20
+        while "Capturing on" not in open(log).read() and time.time() < end and self.process.poll() is None:
+            time.sleep(0.1)
+        time.sleep(1)
+        self.up = time.time() < end and self.process.poll() is None
+
+    def end(self):
+        """Waits until no more comes, a second at least, and ends it."""
+        if self.process.poll() is not None:
+            return
+        size, until = -1, time.time() + 20
+        while self.size() != size and time.time() < until:
+            size = self.size()
+            time.sleep(1)
+        self.process.send_signal(signal.SIGINT)
+        try:
+            self.process.wait(timeout=20)
+        except subprocess.TimeoutExpired:
+            self.process.terminate()
+            self.process.wait(timeout=20)
+
+    def size(self):
+        return os.path.getsize(self.file) if os.path.exists(self.file) else 0
 
 
 def version(*command):
