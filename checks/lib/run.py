@@ -1,7 +1,6 @@
 """`smbfs run` against a small server of this machine, whose share holds a root and two files: what it printed must be what that share says,
 and its requests those of a mount, of each call and of the leave, in this order."""
 import os
-import shutil
 import socket
 import struct
 import subprocess
@@ -9,12 +8,11 @@ import sys
 import threading
 
 import peers
+import smb
+from smb import BYE, CLOSE, CREATE, DENIED, LOGOFF, MISSING, MORE, MOUNT, NEGOTIATE, PENDING, QUERY, SETUP, STAT, TREE
 from smb import error, frame, message
 
 PROGRAM = sys.argv[1]
-NEGOTIATE, SETUP, LOGOFF, TREE, LEAVE, CREATE, CLOSE, QUERY = 0, 1, 2, 3, 4, 5, 6, 16
-MOUNT, STAT, BYE = [NEGOTIATE, SETUP, SETUP, TREE], [CREATE, QUERY, CLOSE], [LEAVE, LOGOFF]
-PENDING, MORE, DENIED, MISSING = 0x103, 0xC0000016, 0xC0000022, 0xC0000034
 SESSION, DISK, FILE = 0x1122334455667788, 0x99, bytes(range(16))
 # name: directory, size, read-only, links, number
 NODES = {"": (1, 0, 0, 1, 1), "a": (0, 5, 0, 1, 2), "d\\b": (0, 2**40, 1, 3, 77)}
@@ -73,8 +71,7 @@ class Server:
         data = self.got(peer, struct.unpack(">I", head)[0])
         if data is None:
             return False
-        command, = struct.unpack_from("<H", data, 12)
-        mid, = struct.unpack_from("<Q", data, 24)
+        command, mid = smb.command(data), smb.message_id(data)
         if mid != len(self.commands):
             self.faults.append(f"message id {mid} where {len(self.commands)} was free")
         self.commands.append(command)
@@ -120,8 +117,7 @@ class Server:
         if command == TREE:
             return 0, struct.pack("<HBBIII", 16, 1, 0, 0, 0, 0x1F01FF)
         if command == CREATE:
-            at, length = struct.unpack_from("<HH", data, 108)
-            self.open = NODES.get(data[at:at + length].decode("utf-16-le"))
+            self.open = NODES.get(smb.created_name(data))
             if self.open is None:
                 return MISSING, error()
             return 0, struct.pack("<HBBIQQQQQQII", 89, 0, 0, 1, 0, 0, 0, 0, 0, 0, 0, 0) + FILE + bytes(8)
@@ -213,38 +209,6 @@ if (done.returncode, done.stdout) != (6, b"fault 6 connects 4\n"):
     failed += 1
     peers.say("run", f"a closed port: {done}")
 
-
-
-def stat_line(number, path):
-    """What the folder of the server says of this file. Of a directory the size 0 and the one link are what a run against Samba printed: the
-    folder has others, so these two fields check nothing but that they stay."""
-    said = os.stat(path)
-    directory = os.path.isdir(path)
-    return f"{number} stat {'dir 0' if directory else f'file {said.st_size}'} 0755 {1 if directory else said.st_nlink} {said.st_ino}\n"
-
-
-if shutil.which("smbd"):
-    samba = peers.Samba()
-    try:
-        for name, data in [("a", b"hello"), ("d/b", bytes(100000))]:
-            os.makedirs(os.path.dirname(os.path.join(samba.share, name)), exist_ok=True)
-            with open(os.path.join(samba.share, name), "wb") as f:
-                f.write(data)
-        os.link(os.path.join(samba.share, "a"), os.path.join(samba.share, "c"))
-        names = ["", "a", "d", "d/b", "c"]
-        script = "".join(f"0 stat /{name}\n" for name in names) + "0 stat /none\n" + 1000 * "0 stat /a\n"
-        want = "".join(stat_line(at, os.path.join(samba.share, name)) for at, name in enumerate(names, 1)) + "6 err 2\n"
-        want += "".join(stat_line(at, os.path.join(samba.share, "a")) for at in range(7, 1007))
-        for share, printed in [("share", (0, want)), ("none", (4, "fault 4 mount tree C00000CC\n"))]:
-            done = subprocess.run([PROGRAM, "run", "127.0.0.1", str(samba.port), share], input=script.encode(), capture_output=True, timeout=60)
-            if (done.returncode, done.stdout.decode()) != printed or done.stderr:
-                failed += 1
-                peers.say("run", f"Samba's share {share}: {done.returncode}, {done.stdout[:400]}, {done.stderr}")
-        peers.say("run", f"{peers.version('smbd', '--version')}: its answers are those of its folder, but for the size and links of a directory")
-    finally:
-        samba.end()
-else:
-    peers.say("run", "Samba's part is skipped, no smbd")
 
 peers.say("run", "failed" if failed else "all as it should be")
 sys.exit(1 if failed else 0)

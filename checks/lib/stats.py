@@ -1,0 +1,329 @@
+"""`smbfs run` against a Samba server. Each printed answer has two readers, and neither is the program: the folder that the server serves,
+and the bytes of the server's reply, which a relay between the two keeps. Where the folder and the server differ (a directory's size and
+links, the read-only mark) the reply decides, and a capture read by tshark has to say the same of it."""
+import errno
+import os
+import shutil
+import string
+import struct
+import subprocess
+import sys
+import tempfile
+import time
+
+import peers
+import smb
+
+CHECK, PROGRAM = "stat", sys.argv[1]
+CHARACTERS = string.ascii_letters + string.digits + "_-"
+DEEP, DEEPEST = "/".join(f"level-{n}" for n in range(1, 21)), "x/" * 126 + "xy"
+# path in the script: path in the folder
+THERE = {
+    "/": "", "/empty": "empty", "/one": "one", "/large": "large", "/links/x": "links/x", "/links/y": "links/y", "/links/z": "links/z",
+    "/links": "links", "/hollow": "hollow", "//links//": "links", f"/{DEEP}": DEEP, f"/{DEEP}/file": f"{DEEP}/file",
+    f"/{DEEPEST}": DEEPEST, "/" + 254 * "n": 254 * "n", f"/{CHARACTERS}": CHARACTERS, "/free": "free", "/guarded": "guarded",
+    "/guarded-directory": "guarded-directory", "/marked": "marked", "/marked-directory": "marked-directory",
+    **{f"/characters/{c}": f"characters/{c}" for c in CHARACTERS}}
+# path in the script: the server's status (MS-ERREF 2.3.1). A name beneath a file has that of a name beneath nothing, as in docs/SHARE.md
+REFUSED = {"/none": smb.MISSING, "/none/below": smb.NO_PATH, "/one/below": smb.NO_PATH, "/closed/below": smb.DENIED}
+# the numbers of Linux for these statuses, as cifs.ko has them
+ERRORS = {smb.MISSING: errno.ENOENT, smb.NO_PATH: errno.ENOENT, smb.DENIED: errno.EACCES}
+SCRIPT = "".join(f"0 stat {path}\n" for path in [*THERE, *REFUSED])
+READ_ONLY = 1  # FILE_ATTRIBUTE_READONLY (MS-FSCC 2.6)
+STATS, ROUNDS = 2000, 2
+
+faults = []
+
+
+def fault(text):
+    faults.append(text)
+    peers.say(CHECK, text)
+
+
+def tell(text):
+    """Says what was as it should be, where all was so far."""
+    if not faults:
+        peers.say(CHECK, text)
+
+
+def fill(share):
+    """Makes what the script asks for. Each file has a size of its own, as far as that can be."""
+    for name in ("links", "hollow", DEEP, DEEPEST, "closed", "guarded-directory", "marked-directory", "characters"):
+        os.makedirs(os.path.join(share, name))
+    sizes = {"empty": 0, "one": 1, "large": 2**33 + 54321, "links/x": 77, f"{DEEP}/file": 1000, 254 * "n": 254, CHARACTERS: 64, "free": 3,
+             "guarded": 4, "marked": 5, "closed/below": 6, **{f"characters/{c}": 100 + ord(c) for c in CHARACTERS}}
+    for name, size in sizes.items():
+        with open(os.path.join(share, name), "wb") as f:
+            f.truncate(size)
+    for name in ("links/y", "links/z"):
+        os.link(os.path.join(share, "links/x"), os.path.join(share, name))
+    for name, mode in (("free", 0o666), ("guarded", 0o444), ("guarded-directory", 0o555), ("marked", 0o666), ("marked-directory", 0o777),
+                       ("closed", 0)):
+        os.chmod(os.path.join(share, name), mode)
+
+
+def run(port, share, script):
+    done = subprocess.run([PROGRAM, "run", "127.0.0.1", str(port), share], input=script, capture_output=True, text=True, timeout=90)
+    return done.returncode, done.stdout, done.stderr
+
+
+def cut(data):
+    """The messages of a stream, which has no more than these."""
+    found = list(smb.frames(bytes(data)))
+    if sum(4 + len(frame) for frame in found) != len(data):
+        fault("a stream ends within a frame")
+    return [part for frame in found for part in smb.parts(frame)]
+
+
+class Run:
+    """A run through a relay: what it came to, and each request with its reply. Where `folder` is given, a capture of it lies there."""
+
+    def __init__(self, samba, share, script, folder=None):
+        relay, capture = peers.Relay(samba.port), None
+        self.port, self.file = relay.port, None
+        if folder:
+            capture = peers.Capture(self.port, folder)
+            self.file = capture.file if capture.up else None
+        relay.start()
+        try:
+            self.status, self.printed, self.complaint = run(relay.port, share, script)
+        finally:
+            relay.end()
+            if capture:
+                capture.end()
+        self.requests = cut(relay.sent)
+        replies = [part for part in cut(relay.got) if smb.status(part) != smb.PENDING]
+        self.replies = {smb.message_id(part): part for part in replies}
+        ids = [smb.message_id(part) for part in self.requests]
+        if ids != list(range(len(ids))):
+            fault(f"share {share}: the message ids are {ids}, and do not go up by one")
+        if [(smb.message_id(part), smb.command(part)) for part in replies] != [(smb.message_id(part), smb.command(part)) for part in self.requests]:
+            fault(f"share {share}: the replies are not one for each request, in order")
+
+
+def information(reply):
+    """What a QUERY_INFO reply (MS-SMB2 2.2.38) says of a file (MS-FSCC 2.4.2): attributes, size, links, directory, number."""
+    at, length = struct.unpack_from("<HI", reply, 66)
+    said = reply[at:at + length]
+    attributes, = struct.unpack_from("<I", said, 32)
+    size, links, _, directory = struct.unpack_from("<QIBB", said, 48)
+    number, = struct.unpack_from("<Q", said, 64)
+    return attributes, size, links, directory, number
+
+
+def answer(attributes, size, links, directory, number):
+    """The answer that this information stands for: without options the mode is 0755, less the bits for writing where it is read-only."""
+    mode = 0o755 & (0o555 if attributes & READ_ONLY else 0o777)
+    return f"stat {'dir' if directory else 'file'} {size} {mode:04o} {links} {number}"
+
+
+def differs(line, path):
+    """Whether the folder says something else of this path. The size and the links of a directory and the mode are not compared."""
+    words, said = line.split(), os.stat(path)
+    if os.path.isdir(path):
+        return words[2:3] + words[6:] != ["dir", str(said.st_ino)]
+    return words[2:4] + words[5:] != ["file", str(said.st_size), str(said.st_nlink), str(said.st_ino)]
+
+
+def judge(samba, share, is_read_only, done):
+    """Compares a run over the whole script with the server's replies and with the folder. `is_read_only` says by the manual page of the
+    server, smb.conf(5), which names have to be read-only."""
+    if faults:
+        return None
+    commands = [smb.command(part) for part in done.requests]
+    if commands != smb.MOUNT + len(THERE) * smb.STAT + len(REFUSED) * [smb.CREATE] + smb.BYE:
+        return fault(f"share {share}: {(done.status, done.printed[:200], done.complaint)}, commands {commands}")
+    wanted, at = [], len(smb.MOUNT)
+    for path, name in [*THERE.items(), *((path, path[1:]) for path in REFUSED)]:
+        request, reply = done.requests[at], done.replies[at]
+        if smb.created_name(request) != name.replace("/", "\\"):
+            fault(f"share {share}: the CREATE for {path} has the name {smb.created_name(request)}")
+        if smb.status(reply) != REFUSED.get(path, 0):
+            return fault(f"share {share}: the CREATE for {path} has the status {smb.status(reply):08X}")
+        number = len(wanted) + 1
+        if path in REFUSED:
+            wanted.append(f"{number} err {ERRORS[REFUSED[path]]}")
+            at += 1
+            continue
+        query, said, close = done.requests[at + 1], done.replies[at + 1], done.requests[at + 2]
+        if tuple(query[66:68]) != (1, 18) or reply[128:144] != query[88:104] or reply[128:144] != close[72:88]:
+            fault(f"share {share}: for {path} another class is asked for, or another file")
+        if smb.status(said) != 0:
+            return fault(f"share {share}: the QUERY_INFO for {path} has the status {smb.status(said):08X}")
+        found = information(said)
+        wanted.append(f"{number} {answer(*found)}")
+        if differs(wanted[-1], os.path.join(samba.share, name)):
+            fault(f"share {share}: of {path} the server says {wanted[-1]}, and the folder {os.stat(os.path.join(samba.share, name))}")
+        if (found[0] & READ_ONLY != 0) != is_read_only(name):
+            fault(f"share {share}: {path} has the attributes {found[0]:08X}")
+        at += 3
+    for got, want in zip(done.printed.splitlines(), wanted):
+        if got != want:
+            fault(f"share {share}: {got!r} was printed where {want!r} was wanted")
+    if (done.status, done.printed, done.complaint) != (0, "\n".join(wanted) + "\n", ""):
+        fault(f"share {share}: status {done.status}, {len(done.printed)} bytes printed, {done.complaint!r}")
+
+
+def tshark(file, port, only, *fields):
+    """The fields of each frame that tshark shows, as lists of texts."""
+    words = [word for field in fields for word in ("-e", field)]
+    done = subprocess.run(["tshark", "-n", "-r", file, "-d", f"tcp.port=={port},nbss", "-Y", only, "-T", "fields", *words],
+                          capture_output=True, text=True, timeout=120)
+    if done.returncode != 0:
+        fault(f"tshark ended with status {done.returncode}: {done.stderr.strip()[-200:]}")
+    return [line.split("\t") for line in done.stdout.splitlines()]
+
+
+def is_true(text):
+    return text in ("1", "True")
+
+
+def bad_frames(file, port):
+    """The frames that are malformed, and those of which tshark has an error to tell; of the program's own frames also a warning. Not
+    among them is Samba's security blob in the reply to NEGOTIATE: its negHints (MS-SPNG 2.2.1) tshark reads as a mechListMIC of RFC 4178."""
+    error, warning = 0x800000, 0x600000
+    only = f"_ws.malformed || _ws.expert.severity >= {error} || (tcp.dstport == {port} && _ws.expert.severity >= {warning})"
+    found = tshark(file, port, only, "frame.number", "tcp.srcport", "smb2.cmd", "_ws.expert.message")
+    return [each for each in found if each[1:3] != [str(port), str(smb.NEGOTIATE)] or not each[3].startswith("BER Error: OctetString expected")]
+
+
+def packets(file, port, *sent):
+    """Writes a capture with one packet for each of these frames, sent to this port: raw IPv4, with no checksums."""
+    with open(file, "wb") as f:
+        f.write(struct.pack("<IHHiIII", 0xA1B2C3D4, 2, 4, 0, 0, 65535, 101))
+        at = 1
+        for data in sent:
+            tcp = struct.pack(">HHIIBBHHH", 40000, port, at, 1, 0x50, 0x18, 65535, 0, 0) + data
+            ip = struct.pack(">BBHHHBBH4s4s", 0x45, 0, 20 + len(tcp), 0, 0, 64, 6, 0, bytes([127, 0, 0, 1]), bytes([127, 0, 0, 1])) + tcp
+            f.write(struct.pack("<IIII", 0, 0, len(ip), len(ip)) + ip)
+            at += len(data)
+
+
+def judge_capture(done, folder):
+    """What tshark says of a run over the whole script, beside what was read here."""
+    messages = tshark(done.file, done.port, "smb2", "smb2.flags.response", "smb2.cmd", "smb2.msg_id")
+    requests = [(int(kind), int(number)) for reply, kind, number in messages if not is_true(reply)]
+    replies = [(int(kind), int(number)) for reply, kind, number in messages if is_true(reply)]
+    calls, found = len(THERE) + len(REFUSED), len(THERE)
+    wanted = {smb.NEGOTIATE: 1, smb.SETUP: 2, smb.TREE: 1, smb.CREATE: calls, smb.QUERY: found, smb.CLOSE: found, smb.LEAVE: 1, smb.LOGOFF: 1}
+    counted = {kind: [each for each, _ in requests].count(kind) for kind in {each for each, _ in requests}}
+    if counted != wanted:
+        fault(f"tshark saw {counted} requests of each command, where {wanted} were sent")
+    if [number for _, number in requests] != list(range(sum(wanted.values()))) or replies != requests:
+        fault("tshark saw message ids that do not go up by one, or other replies")
+    fields = ("smb2.file_attribute", "smb2.eof", "smb2.nlinks", "smb2.is_directory", "smb2.file_id")
+    read = [tuple(int(text, 0) for text in each)
+            for each in tshark(done.file, done.port, f"smb2.cmd == {smb.QUERY} && smb2.flags.response == 1", *fields)]
+    if read != [information(reply) for _, reply in sorted(done.replies.items()) if smb.command(reply) == smb.QUERY]:
+        fault("tshark reads something else of a file in the replies to QUERY_INFO")
+    for bad in bad_frames(done.file, done.port):
+        fault(f"tshark finds a bad frame: {bad}")
+    # the filter finds something where there is something to find: a CREATE request whose name is cut off
+    create = next(part for part in done.requests if smb.command(part) == smb.CREATE and smb.created_name(part))
+    file = os.path.join(folder, "broken")
+    packets(file, done.port, smb.frame(create))
+    good = bad_frames(file, done.port)
+    packets(file, done.port, smb.frame(create[:100]))
+    if good or not bad_frames(file, done.port):
+        fault(f"tshark finds {good} in a good frame, or nothing in a broken one")
+    return sum(wanted.values())
+
+
+def timed(words, **how):
+    begin = time.monotonic()
+    done = subprocess.run(words, capture_output=True, text=True, timeout=300, **how)
+    return time.monotonic() - begin, done
+
+
+def requests_of_smbclient(samba, number):
+    relay = peers.Relay(samba.port)
+    relay.start()
+    try:
+        subprocess.run(peers.smbclient(relay.port, ";".join(number * ["allinfo one"]), samba.folder), stdin=subprocess.DEVNULL,
+                       capture_output=True, timeout=60)
+    finally:
+        relay.end()
+    return len(cut(relay.sent))
+
+
+def race(samba, line):
+    """Times 2,000 stats of one file and 2,000 times smbclient's `allinfo`, in turns, with the mounts and without a relay."""
+    ours, theirs = [], []
+    for _ in range(ROUNDS):
+        seconds, done = timed([PROGRAM, "run", "127.0.0.1", str(samba.port), "share"], input=STATS * "0 stat /one\n")
+        ours.append(seconds)
+        if (done.returncode, done.stdout, done.stderr) != (0, "".join(f"{n} {line}\n" for n in range(1, STATS + 1)), ""):
+            return fault(f"{STATS} stats: status {done.returncode}, {done.stdout[:200]!r}, {done.stderr!r}")
+        seconds, done = timed(peers.smbclient(samba.port, ";".join(STATS * ["allinfo one"]), samba.folder), stdin=subprocess.DEVNULL)
+        theirs.append(seconds)
+        if done.returncode != 0 or done.stdout.count("stream: [::$DATA], 1 bytes\n") != STATS:
+            return fault(f"smbclient: status {done.returncode}, {done.stdout[:200]!r}, {done.stderr[:200]!r}")
+    each = (requests_of_smbclient(samba, 11) - requests_of_smbclient(samba, 1)) / 10
+    show = [" and ".join(f"{seconds:.2f} s" for seconds in times) for times in (ours, theirs)]
+    peers.say(CHECK, f"{STATS} stats took {show[0]} (3 requests each), {STATS} times smbclient's allinfo {show[1]} ({each:g} requests each): "
+              f"smbclient takes {sum(theirs) / sum(ours):.1f} times as long")
+
+
+def keeps_attributes(share):
+    """Whether the file system has extended attributes, where Samba keeps the read-only mark."""
+    try:
+        os.setxattr(os.path.join(share, "hollow"), "user.smbfs", b"1")
+        return True
+    except OSError:
+        return False
+
+
+def main(folder):
+    os.umask(0o022)
+    # two shares of one folder: in the first Samba keeps the read-only mark in an extended attribute, and does not take it from the mode;
+    # in the second it is set where the owner may not write
+    samba = peers.Samba(share_options=["[mapped]", "copy = share", "store dos attributes = no", "map readonly = yes"])
+    try:
+        if not samba.up:
+            peers.say(CHECK, "skipped, smbd does not start")
+            sys.exit(0)
+        fill(samba.share)
+        marked = ()
+        if not shutil.which("smbclient") or not keeps_attributes(samba.share):
+            peers.say(CHECK, "no read-only mark of smbclient's: it is missing, or the file system has no extended attributes")
+        else:
+            for name in ("marked", "marked-directory"):
+                if os.geteuid() == 0:
+                    shutil.chown(os.path.join(samba.share, name), "nobody")
+            done = subprocess.run(peers.smbclient(samba.port, "setmode marked +r; setmode marked-directory +r", samba.folder),
+                                  stdin=subprocess.DEVNULL, capture_output=True, text=True, timeout=60)
+            marked = ("marked", "marked-directory")
+            if done.returncode != 0 or done.stderr:
+                fault(f"smbclient's setmode: {done.stdout}{done.stderr}")
+        done = Run(samba, "share", SCRIPT, folder if shutil.which("tshark") else None)
+        judge(samba, "share", lambda name: name in marked, done)
+        if faults:
+            return
+        judge(samba, "mapped", lambda name: name in ("guarded", "guarded-directory"), Run(samba, "mapped", SCRIPT))
+        tell(f"{peers.version('smbd', '--version')}: {len(THERE) + len(REFUSED)} answers from each of two shares are those of its replies and of "
+             f"its folder; {len(marked)} names are read-only in the first, 2 in the second")
+        if done.file:
+            number = judge_capture(done, folder)
+            tell(f"{' '.join(peers.version('tshark', '--version').split()[:3])}: {number} requests and as many replies, none malformed")
+        else:
+            peers.say(CHECK, "the capture is left out, no tshark, or it may not capture")
+        for share, script, want in [("none", "0 stat /\n", (4, "fault 4 mount tree C00000CC\n", "")),
+                                    ("share", f"# a path of 256 bytes\n0 stat /{255 * 'n'}\n", (2, "fault 2 line 2\n", ""))]:
+            said = run(samba.port, share, script)
+            if said != want:
+                fault(f"share {share}: {said} where {want} was wanted")
+        if shutil.which("smbclient"):
+            one = done.replies[len(smb.MOUNT) + 3 * list(THERE).index("/one") + 1]
+            race(samba, answer(*information(one)))
+        else:
+            peers.say(CHECK, "the times are left out, no smbclient")
+    finally:
+        if os.path.exists(os.path.join(samba.share, "closed")):
+            os.chmod(os.path.join(samba.share, "closed"), 0o700)
+        samba.end()
+
+
+with tempfile.TemporaryDirectory(prefix="smbfs-stat-") as room:
+    main(room)
+peers.say(CHECK, "failed" if faults else "all as it should be")
+sys.exit(1 if faults else 0)
