@@ -3,6 +3,7 @@ and the bytes of the server's reply, which a relay between the two keeps. Where 
 links, the read-only mark) the reply decides, and a capture read by tshark has to say the same of it."""
 import errno
 import os
+import resource
 import shutil
 import string
 import struct
@@ -230,9 +231,11 @@ def judge_capture(done, folder):
 
 
 def timed(words, **how):
-    begin = time.monotonic()
+    """How long it took, the processor time of the program alone, and what it came to."""
+    used, begin = resource.getrusage(resource.RUSAGE_CHILDREN), time.monotonic()
     done = subprocess.run(words, capture_output=True, text=True, timeout=300, **how)
-    return time.monotonic() - begin, done
+    took, now = time.monotonic() - begin, resource.getrusage(resource.RUSAGE_CHILDREN)
+    return (took, now.ru_utime + now.ru_stime - used.ru_utime - used.ru_stime), done
 
 
 def requests_of_smbclient(samba, number):
@@ -250,18 +253,20 @@ def race(samba, line):
     """Times 2,000 stats of one file and 2,000 times smbclient's `allinfo`, in turns, with the mounts and without a relay."""
     ours, theirs = [], []
     for _ in range(ROUNDS):
-        seconds, done = timed([PROGRAM, "run", "127.0.0.1", str(samba.port), "share"], input=STATS * "0 stat /one\n")
-        ours.append(seconds)
+        times, done = timed([PROGRAM, "run", "127.0.0.1", str(samba.port), "share"], input=STATS * "0 stat /one\n")
+        ours.append(times)
         if (done.returncode, done.stdout, done.stderr) != (0, "".join(f"{n} {line}\n" for n in range(1, STATS + 1)), ""):
             return fault(f"{STATS} stats: status {done.returncode}, {done.stdout[:200]!r}, {done.stderr!r}")
-        seconds, done = timed(peers.smbclient(samba.port, ";".join(STATS * ["allinfo one"]), samba.folder), stdin=subprocess.DEVNULL)
-        theirs.append(seconds)
+        times, done = timed(peers.smbclient(samba.port, ";".join(STATS * ["allinfo one"]), samba.folder), stdin=subprocess.DEVNULL)
+        theirs.append(times)
         if done.returncode != 0 or done.stdout.count("stream: [::$DATA], 1 bytes\n") != STATS:
             return fault(f"smbclient: status {done.returncode}, {done.stdout[:200]!r}, {done.stderr[:200]!r}")
     each = (requests_of_smbclient(samba, 11) - requests_of_smbclient(samba, 1)) / 10
-    show = [" and ".join(f"{seconds:.2f} s" for seconds in times) for times in (ours, theirs)]
-    peers.say(CHECK, f"{STATS} stats took {show[0]} (3 requests each), {STATS} times smbclient's allinfo {show[1]} ({each:g} requests each): "
-              f"smbclient takes {sum(theirs) / sum(ours):.1f} times as long")
+    show = [" and ".join(f"{took:.2f} s" for took, _ in times) + " (" + " and ".join(f"{used:.2f} s" for _, used in times) + " of a processor)"
+            for times in (ours, theirs)]
+    ratio = sum(took for took, _ in theirs) / sum(took for took, _ in ours)
+    peers.say(CHECK, f"{STATS} stats of 3 requests took {show[0]}, {STATS} times smbclient's allinfo of {each:g} requests {show[1]}: "
+              f"smbclient takes {ratio:.1f} times as long")
 
 
 def keeps_attributes(share):
