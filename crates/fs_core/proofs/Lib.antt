@@ -7,4 +7,7 @@ mod Judging
 mod Brought
 mod Replying
 mod Asks
+pub mod Courses
+pub mod Created
+pub mod NoCredit
 pub mod Asides

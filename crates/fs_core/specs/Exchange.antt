@@ -25,7 +25,10 @@ awaiting items begun f =
 abbrev pub TakesFrame : Awaited → List ℕ → Result (Option (List ℕ)) Stop → Type 0
 TakesFrame request frame (Ok part) = judged (Some request) frame ≡ Ok part
 TakesFrame request frame (Err (stop.Fault kind)) = judged (Some request) frame ≡ Err kind
-TakesFrame request frame (Err other) = Unit {0}
+TakesFrame request frame (Err stop.NoMemory) = Unit {0}
+TakesFrame request frame (Err stop.Frames) = Unit {0}
+TakesFrame request frame (Err stop.Lost) = ⊥
+TakesFrame request frame (Err stop.Silent) = ⊥
 
 -- this flight is the request that is awaited
 pub record Awaits (request : Awaited) (f : Flight) : Type 0 where

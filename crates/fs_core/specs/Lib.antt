@@ -4,3 +4,5 @@ pub mod Judged
 pub mod Hearing
 pub mod Exchange
 pub mod Asking
+pub mod Course
+pub mod Credits

@@ -1,13 +1,17 @@
 //! Requests of the connection itself, and of a call, one by one.
 
-ghost use Rattle.std.specs.Prelude.{◌≡◌, ◌+◌, ◌<◌, ◌≤◌, ◌∷◌, [], IfOk, OnOk, OnErr, length};
+ghost use Rattle.std.specs.Prelude.{◌≡◌, ◌+◌, ◌<◌, ◌≤◌, ◌∷◌, [], IfOk, IfErr, OnOk, OnErr, length};
 ghost use Rattle.smb_link.specs.declared.event.Event.TheVariants as event;
 ghost use Rattle.smb_link.specs.declared.mark.Mark.TheVariants as mark;
 ghost use Rattle.smb_link.specs.Story.{Gains};
+ghost use Rattle.fs_core.specs.declared.part.Kind.TheVariants as kind;
+ghost use Rattle.fs_core.specs.declared.wire.Stop.TheVariants as stop;
 ghost use Rattle.fs_core.specs.declared.wire.TheConstants.{MAX_FRAMES};
 ghost use Rattle.fs_core.specs.Written.{IsAlone};
 ghost use Rattle.fs_core.specs.Judged.{Says};
 ghost use Rattle.fs_core.specs.Asking.{SendLeads, AskLeads, RequestLeads, AnswerLeads};
+ghost use Rattle.smb_link.specs.Came.{seen_by, Came};
+ghost use Rattle.fs_core.specs.Course.{Does, SentSo, RequestedSo, AskedSo, AnsweredSo, SaysNothing, IsFault};
 
 use crate::exchange::await_reply;
 use crate::part::{Awaited, Kind};
@@ -42,9 +46,11 @@ pub fn ask<L: Link, C: Clock>(
     requires few { wire.old.received < MAX_FRAMES }
     requires short { length request.now.body ≤ 100000 }
     ensures leads { AskLeads request.now wire.old.next result (L.story link.old) (L.story link.new) }
+    ensures came { Does (AskedSo patience request.now wire.old.next wire.old.received wire.new.received result) (seen_by L.story L.connect_faults L.cuts L.quiets link.old) (seen_by L.story L.connect_faults L.cuts L.quiets link.new) }
     ensures empty { IfOk result (λ _. wire.new.frames ≡ []) }
     ensures few { IfOk result (λ _. wire.new.received < MAX_FRAMES) }
     ensures next { IfOk result (λ _. wire.new.next ≡ wire.old.next + 1) }
+    ensures starves { result ≡ Err (stop.Fault kind.Credit) → wire.old.granted ≤ wire.old.next }
 {
     let mid = match wire.take_id() {
         Some(mid) => mid,
@@ -85,6 +91,7 @@ pub fn send_request<L: Link>(
 ) -> Result<(), Stop>
     requires alone { IsAlone message.now }
     ensures leads { RequestLeads number mid message.now result (L.story link.old) (L.story link.new) }
+    ensures came { Does (RequestedSo number mid message.now result) (seen_by L.story L.connect_faults L.cuts L.quiets link.old) (seen_by L.story L.connect_faults L.cuts L.quiets link.new) }
 {
     match announce(link, number, mid) {
         Ok(()) => {}
@@ -97,6 +104,8 @@ pub fn send_request<L: Link>(
 fn announce<L: Link>(link: &mut L, number: u64, mid: Mid) -> Result<(), NoMemory>
     ensures ok { OnOk result (Gains (event.Marked (mark.For number mid 1) ∷ []) (L.story link.old) (L.story link.new)) }
     ensures err { OnErr result (Gains [] (L.story link.old) (L.story link.new)) }
+    ensures told { OnOk result (Came (event.Marked (mark.For number mid 1) ∷ []) (seen_by L.story L.connect_faults L.cuts L.quiets link.old) (seen_by L.story L.connect_faults L.cuts L.quiets link.new)) }
+    ensures untold { OnErr result (Came [] (seen_by L.story L.connect_faults L.cuts L.quiets link.old) (seen_by L.story L.connect_faults L.cuts L.quiets link.new)) }
 {
     let mark = Mark::For(number, mid, 1);
     link.mark(&mark)
@@ -106,6 +115,7 @@ fn announce<L: Link>(link: &mut L, number: u64, mid: Mid) -> Result<(), NoMemory
 fn send_message<L: Link>(alloc: Global, link: &mut L, message: &Bytes) -> Result<(), Stop>
     requires alone { IsAlone message.now }
     ensures leads { SendLeads message.now result (L.story link.old) (L.story link.new) }
+    ensures came { Does (SentSo message.now result) (seen_by L.story L.connect_faults L.cuts L.quiets link.old) (seen_by L.story L.connect_faults L.cuts L.quiets link.new) }
 {
     let frame = match framed(alloc, message) {
         Ok(frame) => frame,
@@ -137,6 +147,7 @@ pub fn take_reply<L: Link, C: Clock>(
     requires empty { wire.old.frames ≡ [] }
     requires few { wire.old.received < MAX_FRAMES }
     ensures leads { AnswerLeads awaited result (L.story link.old) (L.story link.new) }
+    ensures came { Does (AnsweredSo patience awaited wire.old.received wire.new.received result) (seen_by L.story L.connect_faults L.cuts L.quiets link.old) (seen_by L.story L.connect_faults L.cuts L.quiets link.new) }
     ensures empty { IfOk result (λ _. wire.new.frames ≡ []) }
     ensures few { IfOk result (λ _. wire.new.received < MAX_FRAMES) }
     ensures next { wire.new.next ≡ wire.old.next }
@@ -149,7 +160,8 @@ pub fn take_reply<L: Link, C: Clock>(
 
 // What the final reply to a request of this command says.
 fn read_final(part: &[u8], command: u16) -> Result<Rep, Stop>
-    ensures { IfOk result (Says command part.now) }
+    ensures says { IfOk result (Says command part.now) }
+    ensures silent { IfErr result (λ why. IsFault why × SaysNothing command part.now) }
 {
     let head = match read_head(part) {
         Ok(head) => head,

@@ -6,7 +6,9 @@ ghost use Rattle.smb_link.specs.declared.mark.Mark.TheVariants as mark;
 ghost use Rattle.smb_link.specs.Story.{Gains};
 ghost use Rattle.smb_head.specs.Stream.{first_of, Partial};
 ghost use Rattle.fs_core.specs.declared.listen.Heard.{Heard};
+ghost use Rattle.smb_link.specs.Came.{seen_by, Came};
 ghost use Rattle.fs_core.specs.Hearing.{Hears, TakesIn, LeavesNothing};
+ghost use Rattle.fs_core.specs.Course.{Does, HeardSo};
 
 use smb_base::{Bytes, NoMemory};
 use smb_head::{FrameFault, Frames};
@@ -40,6 +42,7 @@ pub fn hear<L: Link, C: Clock>(
     requires room { 0 < length buf.old }
     requires partial { first_of frames.old ≡ Partial }
     ensures hears { Hears frames.old result (L.story link.old) (L.story link.new) }
+    ensures came { Does (HeardSo patience frames.old result) (seen_by L.story L.connect_faults L.cuts L.quiets link.old) (seen_by L.story L.connect_faults L.cuts L.quiets link.new) }
     ensures emptied { LeavesNothing result frames.new }
 {
     let mut quiets = 0;
@@ -73,6 +76,8 @@ pub fn hear<L: Link, C: Clock>(
 fn tell_time<L: Link, C: Clock>(link: &mut L, clock: &mut C) -> Result<(), NoMemory>
     ensures ok { OnOk result ((time : ℕ) × Gains (event.Marked (mark.Now time) ∷ []) (L.story link.old) (L.story link.new)) }
     ensures err { OnErr result (Gains [] (L.story link.old) (L.story link.new)) }
+    ensures told { OnOk result ((time : ℕ) × Came (event.Marked (mark.Now time) ∷ []) (seen_by L.story L.connect_faults L.cuts L.quiets link.old) (seen_by L.story L.connect_faults L.cuts L.quiets link.new)) }
+    ensures untold { OnErr result (Came [] (seen_by L.story L.connect_faults L.cuts L.quiets link.old) (seen_by L.story L.connect_faults L.cuts L.quiets link.new)) }
 {
     let now = Mark::Now(clock.now());
     link.mark(&now)

@@ -2,8 +2,11 @@
 
 ghost use Rattle.std.specs.Prelude.{◌≡◌, ◌+◌, ◌<◌, ◌≤◌, ◌^◌, ◌-◌, [], IfOk, IfErr, IfSome, IfNone};
 ghost use Rattle.fs_core.specs.declared.wire.Stop.TheVariants as stop;
+ghost use Rattle.fs_core.specs.declared.wire.TheConstants.{MAX_FRAMES};
 ghost use Rattle.fs_core.specs.Judged.{seen_part};
+ghost use Rattle.smb_head.specs.Header.{head_of};
 ghost use Rattle.fs_core.specs.Exchange.{TakesFrame};
+ghost use Rattle.fs_core.specs.Credits.{granted_by, granted_in, grown};
 
 use crate::judge::final_reply;
 use crate::part::{Awaited, Kind};
@@ -83,7 +86,10 @@ impl Wire {
     ) -> Result<Option<Bytes>, Stop>
         requires { self.old.received < MAX_FRAMES }
         ensures takes { TakesFrame awaited frame.now result }
+        ensures received { self.new.received ≡ self.old.received + 1 }
+        ensures last { IfErr result (λ why. why ≡ stop.Frames → self.new.received ≡ MAX_FRAMES) }
         ensures counted { IfOk result (λ _. (self.new.received < MAX_FRAMES) × (self.new.received ≡ self.old.received + 1)) }
+        ensures granted { IfOk result (λ _. self.new.granted ≡ grown self.old.granted (granted_in frame.now)) }
         ensures frames { self.new.frames ≡ self.old.frames }
         ensures next { self.new.next ≡ self.old.next }
     {
@@ -114,7 +120,9 @@ fn copied(alloc: Global, part: Option<&[u8]>) -> Result<Option<Bytes>, Stop>
 }
 
 // The credits that the messages of a frame grant.
-fn granted_in(frame: &[u8]) -> u64 {
+fn granted_in(frame: &[u8]) -> u64
+    ensures { result ≡ grown 0 (granted_in frame.now) }
+{
     let mut granted: u64 = 0;
     for part in split(frame) {
         if let Ok(message) = part {
@@ -125,7 +133,9 @@ fn granted_in(frame: &[u8]) -> u64 {
 }
 
 // The credits that a message grants.
-fn credits_of(message: &[u8]) -> u64 {
+fn credits_of(message: &[u8]) -> u64
+    ensures { result ≡ granted_by (head_of message.now) }
+{
     match read_head(message) {
         Ok(head) => u64::from(head.credits),
         Err(_) => 0,
