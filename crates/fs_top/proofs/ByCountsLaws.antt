@@ -1,4 +1,5 @@
 -- The counts of a link after the events of a run.
+use Rattle.fs_core.specs.Course.{bytes_got, quiets_at_end}
 use Rattle.std.proofs.Common.{◌≡◌, ◌≢◌, ◌≤◌, ◌⊎◌, ◌==◌, ◌&&◌, inl, inr, ℕ, ◌+◌, ◌-◌, ◌^◌, Bool, true, false, if◌then◌else◌, MatchBool, List, [], ◌∷◌, ◌++◌, Option, Some, None, Result, Ok, Err, min, refl, ap, sym, ◌∙◌, arith}
 use Rattle.smb_link.specs.Count.{counted, Rose}
 use Rattle.smb_link.specs.declared.event.Event.{Event}
@@ -21,7 +22,7 @@ use Rattle.fs_top.specs.Endings.{status_of}
 use Rattle.fs_top.specs.Printing.{Held}
 use Rattle.fs_top.specs.Request.{ping_frame}
 use Rattle.fs_top.specs.Run.{opening, Printed, Ran}
-use Rattle.fs_top.specs.Tale.{bytes_got, quiets_at_end, Listens, FirstEnds, LastEnds, WaitEnds}
+use Rattle.fs_top.specs.Tale.{Listens, FirstEnds, LastEnds, WaitEnds}
 use Rattle.fs_top.specs.Verdict.{is_reply, greeting_of, answer_of, unless_more, GreetingEnds, RefusalEnds, ReplyEnds, PartEnds}
 use Rattle.fs_top.proofs.Once.{Cause, by_words, by_refusal, by_wait, cause_of}
 use Rattle.smb_link.proofs.CameLaws.{counted_all-append}

@@ -1,13 +1,19 @@
 -- Lines, frames and tales, computed.
+use Rattle.fs_core.specs.Course.{bytes_got, quiets_at_end}
 use Rattle.std.proofs.Common.{◌≡◌, ◌++◌, List, [], ◌∷◌, length, replicate, codes, refl}
+use Rattle.std.specs.Str.{chars}
+use Rattle.hex.proofs.OnLiterals.{hex_on_literals}
 use Rattle.smb_link.specs.declared.event.Event.{Event}
 use Rattle.smb_link.specs.declared.event.Event.TheVariants.{Got, Quiet}
 use Rattle.fs_top.specs.declared.ending.Ending.TheVariants as ending
 use Rattle.fs_top.specs.declared.ending.Kind.TheVariants as kind
 use Rattle.smb_link.specs.Came.{counted_all, is_silence}
+use Rattle.smb_mount.specs.declared.fault.MountFault.TheVariants as fault
+use Rattle.fs_top.specs.declared.run_end.End.TheVariants as end
 use Rattle.fs_top.specs.Endings.{text_of}
+use Rattle.fs_top.specs.RunEndings as run
+use Rattle.fs_top.specs.SharePath.{share_path}
 use Rattle.fs_top.specs.Request.{ping_frame}
-use Rattle.fs_top.specs.Tale.{bytes_got, quiets_at_end}
 
 -- the frame has 106 bytes
 frame_length : length (ping_frame (replicate 16 7)) ≡ 106
@@ -15,6 +21,19 @@ frame_length = refl
 
 a_bad_frame : text_of (ending.Frame kind.Stranger) ≡ codes "fault 5 frame 1 stranger" ++ 10 ∷ []
 a_bad_frame = refl
+
+a_refused_session : run.text_of (end.Mount (fault.Session (record { 0 = 0xC000_006D }))) ≡ codes "fault 4 mount session C000006D" ++ 10 ∷ []
+unfolding hex_on_literals
+a_refused_session = refl
+
+another_dialect : run.text_of (end.Mount (fault.Dialect 0x0202)) ≡ codes "fault 4 mount dialect 0x0202" ++ 10 ∷ []
+unfolding hex_on_literals
+another_dialect = refl
+
+-- the path \\h\s in units of UTF-16
+a_path : share_path (codes "h") (codes "s") ≡ 0x5C ∷ 0x5C ∷ 0x68 ∷ 0x5C ∷ 0x73 ∷ []
+unfolding chars
+a_path = refl
 
 -- two silences, three bytes in two pieces, and a silence
 tale : List Event

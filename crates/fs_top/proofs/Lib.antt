@@ -9,6 +9,19 @@ pub mod Once
 pub mod ByCountsLaws
 pub mod Examples
 mod Steps
+pub mod Courses
+pub mod Exchanging
+pub mod Saying
+pub mod Scripted
 mod Mounting
+mod Connecting
 mod Calling
+pub mod Talking
 mod Running
+mod SharePaths
+mod RunWords
+pub mod MountCourses
+mod Coming
+mod Keeping
+mod Progressing
+pub mod Scripts

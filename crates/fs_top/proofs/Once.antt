@@ -1,4 +1,5 @@
 -- No two endings of a run have their causes in the same words and the same events.
+use Rattle.fs_core.specs.Course.{bytes_got}
 use Rattle.std.proofs.Common.{◌≡◌, ◌==◌, ◌&&◌, inl, inr, ℕ, Bool, true, false, List, [], ◌∷◌, ◌++◌, Option, Some, None, Result, Ok, Err, MatchBool, refl, ap, sym, ◌∙◌, subst}
 use Rattle.std.proofs.lemmas.List.{append_cancel_left}
 use Rattle.smb_link.specs.declared.event.Event.{Event}
@@ -17,7 +18,7 @@ use Rattle.fs_top.specs.declared.ending.Ending.TheVariants as ending
 use Rattle.fs_top.specs.declared.ending.Kind.TheVariants as kind
 use Rattle.fs_top.specs.Request.{ping_frame}
 use Rattle.fs_top.specs.Run.{opening, AskedEnds, ArePing, Causes}
-use Rattle.fs_top.specs.Tale.{bytes_got, FirstEnds, LastEnds, WaitEnds}
+use Rattle.fs_top.specs.Tale.{FirstEnds, LastEnds, WaitEnds}
 use Rattle.fs_top.specs.Verdict.{is_reply, greeting_of, answer_of, unless_more, GreetingEnds, RefusalEnds, ReplyEnds, PartEnds}
 
 -- two replies that stand in one message say the same

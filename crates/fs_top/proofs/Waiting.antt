@@ -7,7 +7,9 @@ use Rattle.smb_head.specs.Stream.{Partial, first_of}
 use Rattle.fs_top.specs.declared.ending.Ending.{Ending}
 use Rattle.fs_top.specs.declared.ending.Ending.TheVariants as ending
 use Rattle.smb_link.specs.Came.{Seen, Came}
-use Rattle.fs_top.specs.Tale.{bytes_got, quiets_at_end, Listens, GoesOn, FirstEnds, LastEnds, WaitEnds, HeardBy, Heard}
+use Rattle.fs_core.specs.Course.{bytes_got, quiets_at_end}
+use Rattle.fs_core.proofs.Courses.{bytes_got-append, quiets_at_end-got, quiets_at_end-silence}
+use Rattle.fs_top.specs.Tale.{Listens, GoesOn, FirstEnds, LastEnds, WaitEnds, HeardBy, Heard}
 use Rattle.smb_link.proofs.CameLaws.{came_none, came_then}
 
 -- a call waits: these events came since the start and decide nothing, the bytes of them are held, and so many waits in vain stand at their end
@@ -18,28 +20,11 @@ pub record Waiting (old new : Seen) (held : List ℕ) (quiets : ℕ) : Type 0 wh
   pub held_is : held ≡ bytes_got heard
   pub quiets_are : quiets ≡ quiets_at_end 0 heard
 
-pub bytes_got-append : (xs ys : List Event) → bytes_got (xs ++ ys) ≡ bytes_got xs ++ bytes_got ys
-bytes_got-append [] ys = refl
-bytes_got-append (Got bytes ∷ xs) ys = ap (λ (b : List ℕ). bytes ++ b) (bytes_got-append xs ys) ∙ sym (append_assoc bytes (bytes_got xs) (bytes_got ys))
-bytes_got-append (event ∷ xs) ys = bytes_got-append xs ys
-
 bytes_got-push : (events : List Event) (bytes : List ℕ) → bytes_got (events ++ Got bytes ∷ []) ≡ bytes_got events ++ bytes
 bytes_got-push events bytes = bytes_got-append events (Got bytes ∷ []) ∙ ap (λ (b : List ℕ). bytes_got events ++ b) (append-nil bytes)
 
 bytes_got-silence : (events : List Event) → bytes_got (events ++ Quiet ∷ []) ≡ bytes_got events
 bytes_got-silence events = bytes_got-append events (Quiet ∷ []) ∙ append-nil (bytes_got events)
-
-quiets_at_end-got : (n : ℕ) (events : List Event) (bytes : List ℕ) → quiets_at_end n (events ++ Got bytes ∷ []) ≡ 0
-quiets_at_end-got n [] bytes = refl
-quiets_at_end-got n (Got b ∷ events) bytes = quiets_at_end-got 0 events bytes
-quiets_at_end-got n (Quiet ∷ events) bytes = quiets_at_end-got (n + 1) events bytes
-quiets_at_end-got n (event ∷ events) bytes = quiets_at_end-got n events bytes
-
-quiets_at_end-silence : (n : ℕ) (events : List Event) → quiets_at_end n (events ++ Quiet ∷ []) ≡ quiets_at_end n events + 1
-quiets_at_end-silence n [] = refl
-quiets_at_end-silence n (Got b ∷ events) = quiets_at_end-silence 0 events
-quiets_at_end-silence n (Quiet ∷ events) = quiets_at_end-silence (n + 1) events
-quiets_at_end-silence n (event ∷ events) = quiets_at_end-silence n events
 
 listens_got : (n : ℕ) (events : List Event) (bytes : List ℕ) → Listens n events → Listens n (events ++ Got bytes ∷ [])
 listens_got n [] bytes h = (h, omega arith)

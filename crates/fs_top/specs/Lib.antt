@@ -3,7 +3,14 @@ pub mod Endings
 pub mod Printing
 pub mod Request
 pub mod Run
+pub mod RunEndings
 pub mod Tale
 pub mod Verdict
 pub mod Words
 pub mod Runs
+pub mod SharePath
+pub mod Script
+pub mod Progress
+pub mod Talks
+pub mod Course
+pub mod MountCourse

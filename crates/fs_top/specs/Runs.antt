@@ -65,10 +65,11 @@ pub record IsReady (w : Wire) : Type 0 where
   pub empty : w.frames ≡ []
   pub few : w.received < MAX_FRAMES
 
--- the lines read so far begin above the one with this number; the call that is held is of a later line
+-- the lines read so far begin above the one with this number; the call that is held is of a later line, and more may come behind it
 pub record IsAhead (last : ℕ) (a : Ahead) : Type 0 where
   pub read_on : last ≤ a.lines.number
   pub held : IfSome a.held (λ x. (last < x.number) × (x.number ≤ a.lines.number))
+  pub more : IfSome a.held (λ x. a.over ≡ None)
 
 -- what lines bring: a call is that of the last line that was read
 abbrev pub IsToldAt : ℕ → Found → Type 0

@@ -7,20 +7,8 @@ use Rattle.fs_top.specs.declared.ending.Ending.{Ending}
 use Rattle.fs_top.specs.declared.ending.Ending.TheVariants.{Memory, Frame, Cuts}
 use Rattle.fs_top.specs.declared.ending.Kind.TheVariants.{Length}
 use Rattle.smb_link.specs.Came.{Seen, Came}
+use Rattle.fs_core.specs.Course.{bytes_got, quiets_at_end}
 use Rattle.fs_top.specs.Verdict.{MessageEnds}
-
--- all bytes that came, in their order
-abbrev pub bytes_got : List Event → List ℕ
-bytes_got [] = []
-bytes_got (Got bytes ∷ events) = bytes ++ bytes_got events
-bytes_got (event ∷ events) = bytes_got events
-
--- how many waits in vain stand in a row at the end of these events, after so many before them
-abbrev pub quiets_at_end : ℕ → List Event → ℕ
-quiets_at_end n [] = n
-quiets_at_end n (Quiet ∷ events) = quiets_at_end (n + 1) events
-quiets_at_end n (Got bytes ∷ events) = quiets_at_end 0 events
-quiets_at_end n (event ∷ events) = quiets_at_end n events
 
 -- bytes come, or nothing comes, but never 300 times in a row, after so many before; and nothing else happens
 abbrev pub Listens : ℕ → List Event → Type 0

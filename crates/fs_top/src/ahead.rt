@@ -1,10 +1,15 @@
 //! The lines of a script, read one ahead of the calls.
 
-ghost use Rattle.std.specs.Prelude.{◌≡◌, ◌<◌, ◌≤◌, ◌-◌, ◌^◌, ℕ, [], ◌∷◌, IfOk, IfSome, IfNone, OnOk, OnErr};
+ghost use Rattle.std.specs.Prelude.{◌≡◌, ◌<◌, ◌≤◌, ◌-◌, ◌^◌, ℕ, List, [], ◌∷◌, Option, Some, None, false, option_map, IfOk, IfSome, IfNone, OnOk, OnErr, is_some};
 ghost use Rattle.smb_link.specs.declared.event.Event.TheVariants as event;
 ghost use Rattle.smb_link.specs.declared.mark.Mark.TheVariants as mark;
+ghost use Rattle.smb_link.specs.Count.{counted};
 ghost use Rattle.smb_link.specs.Story.{Gains};
+ghost use Rattle.smb_link.specs.Came.{seen_by, Came};
+ghost use Rattle.fs_core.specs.Course.{Does};
+ghost use Rattle.fs_top.specs.Course.{LooksSo};
 ghost use Rattle.fs_top.specs.Runs.{StaysOrLeaves, IsAhead, IsFound, IsFoundLine, IsToldAt};
+ghost use Rattle.fs_top.specs.Script.{wanted_at, brought, coming_of, to_come, lines_to_come, held_then, Brings, LineBrings, IsHeldOrOver, Keeps, is_failed_now, is_source, is_source_line, is_source_by};
 
 use fs_lines::{Lines, NextLine};
 use fs_script::{Line, LineFault, read_line};
@@ -46,7 +51,11 @@ pub struct Ahead {
 impl Ahead {
     /// Nothing was read yet.
     pub fn new(alloc: Global) -> Ahead
-        ensures { IsAhead 0 result }
+        ensures ahead { IsAhead 0 result }
+        ensures starts { result ≡ record { lines = record { held = []; ended = false; number = 0 }; held = None; over = None } }
+
+        // What is to come is all that the script asks for.
+        ensures script { (left : Option (List ℕ)) → to_come result left ≡ option_map coming_of left }
     {
         Ahead {
             lines: Lines::new(alloc),
@@ -64,7 +73,12 @@ impl Ahead {
         link: &mut L,
     ) -> Result<(), NoMemory>
         ensures leads { StaysOrLeaves result (L.story link.old) (L.story link.new) }
+        ensures came { Does (LooksSo (is_some self.old.over) (is_some self.new.over) result) (seen_by L.story L.connect_faults L.cuts L.quiets link.old) (seen_by L.story L.connect_faults L.cuts L.quiets link.new) }
         ensures ahead { (last : ℕ) → IsAhead last self.old → IsAhead last self.new }
+        ensures ready { OnOk result (IsHeldOrOver self.new) }
+        ensures stays { IsHeldOrOver self.old → self.new ≡ self.old }
+        ensures comes { OnOk result (Keeps self.old (S.left input.old) self.new (S.left input.new)) }
+        ensures faults { S.faults input.new ≡ counted (S.faults input.old) (is_failed_now self.old.over self.new.over) }
     {
         if self.held.is_some() || self.over.is_some() {
             return Ok(());
@@ -85,13 +99,21 @@ impl Ahead {
     /// Takes the call that is held.
     pub fn take(&mut self) -> Option<Asked>
         ensures taken { IfSome result (λ x. (last : ℕ) → IsAhead last self.old → (last < x.number) × IsAhead x.number self.new) }
+        ensures more { IfSome result (λ x. (last : ℕ) → IsAhead last self.old → self.new.over ≡ None) }
         ensures none { IfNone result ((last : ℕ) → IsAhead last self.old → IsAhead last self.new) }
+        ensures held { result ≡ self.old.held }
+        ensures rest { self.new ≡ record self.old { held = None } }
+
+        // It is the first call of those to come, and the others are still to come.
+        ensures comes { (left : Option (List ℕ)) → to_come self.old left ≡ option_map (held_then result) (to_come self.new left) }
     {
         self.held.take()
     }
 
     /// Why no more lines are read; none while more may come.
-    pub fn over(&self) -> Option<Over> {
+    pub fn over(&self) -> Option<Over>
+        ensures { result ≡ self.now.over }
+    {
         self.over
     }
 }
@@ -106,11 +128,14 @@ enum Found {
 fn next_call<S: Source>(alloc: Global, lines: &mut Lines, input: &mut S) -> Result<Found, NoMemory>
     ensures found { IfOk result (IsFound lines.old.number lines.new.number) }
     ensures on { lines.old.number ≤ lines.new.number }
+    ensures brings { IfOk result (λ found. Brings found (lines_to_come lines.old (S.left input.old)) (lines_to_come lines.new (S.left input.new))) }
+    ensures faults { S.faults input.new ≡ counted (S.faults input.old) (is_source_by is_source result) }
 {
     while lines.number() < u64::MAX {
-        match next_line(alloc, lines, input)? {
-            Some(found) => return Ok(found),
-            None => {}
+        match next_line(alloc, lines, input) {
+            Ok(Some(found)) => return Ok(found),
+            Ok(None) => {}
+            Err(NoMemory) => return Err(NoMemory),
         }
     }
     Ok(Found::Over(Over::Line(u64::MAX)))
@@ -125,6 +150,8 @@ fn next_line<S: Source>(
     requires { lines.old.number < 2 ^ 64 - 1 }
     ensures found { IfOk result (IsFoundLine lines.old.number lines.new.number) }
     ensures on { lines.old.number ≤ lines.new.number }
+    ensures brings { IfOk result (λ found. LineBrings found (lines_to_come lines.old (S.left input.old)) (lines_to_come lines.new (S.left input.new))) }
+    ensures faults { S.faults input.new ≡ counted (S.faults input.old) (is_source_by is_source_line result) }
 {
     match lines.next(input) {
         NextLine::Line(text) => told(alloc, lines.number(), &text),
@@ -138,7 +165,8 @@ fn next_line<S: Source>(
 
 // What a line with this number brings. The line with the greatest number is refused.
 fn told(alloc: Global, number: u64, text: &Text) -> Result<Option<Found>, NoMemory>
-    ensures { IfOk result (λ found. IfSome found (IsToldAt number)) }
+    ensures at { IfOk result (λ found. IfSome found (IsToldAt number)) }
+    ensures brings { IfOk result (λ found. found ≡ brought (wanted_at number text.now) number) }
 {
     if number == u64::MAX {
         return Ok(Some(Found::Over(Over::Line(number))));
@@ -157,6 +185,8 @@ fn told(alloc: Global, number: u64, text: &Text) -> Result<Option<Found>, NoMemo
 
 // Puts the mark of the script's end into the story.
 fn end<L: Link>(link: &mut L) -> Result<(), NoMemory>
+    ensures told { OnOk result (Came (event.Marked mark.End ∷ []) (seen_by L.story L.connect_faults L.cuts L.quiets link.old) (seen_by L.story L.connect_faults L.cuts L.quiets link.new)) }
+    ensures untold { OnErr result (Came [] (seen_by L.story L.connect_faults L.cuts L.quiets link.old) (seen_by L.story L.connect_faults L.cuts L.quiets link.new)) }
     ensures ok { OnOk result (Gains (event.Marked mark.End ∷ []) (L.story link.old) (L.story link.new)) }
     ensures err { OnErr result (Gains [] (L.story link.old) (L.story link.new)) }
 {

@@ -1,11 +1,20 @@
 //! A call, one request after another.
 
-ghost use Rattle.std.specs.Prelude.{◌≡◌, ◌≤◌, ◌<◌, ◌+◌, ◌-◌, ◌^◌, ℕ, IfOk, length};
+ghost use Rattle.std.specs.Prelude.{◌≡◌, ◌≤◌, ◌<◌, ◌+◌, ◌-◌, ◌^◌, ℕ, IfOk, IfErr, OnOk, is_some, length};
 ghost use Rattle.smb_link.specs.Program.{of_errno, of_refusal, number_of_fault};
 ghost use Rattle.smb_link.specs.Stat.{kind_of, shown_mode, stat_answer};
+ghost use Rattle.smb_mount.specs.Requests.{charge_of};
+ghost use Rattle.fs_plain.specs.World.{mid_of};
 ghost use Rattle.fs_plain.specs.Replies.{command_of};
+ghost use Rattle.fs_core.specs.declared.part.Kind.TheVariants as kind;
+ghost use Rattle.fs_core.specs.declared.wire.Stop.TheVariants as stop;
+ghost use Rattle.smb_link.specs.Came.{seen_by};
 ghost use Rattle.fs_core.specs.Written.{IsAlone};
+ghost use Rattle.fs_core.specs.Course.{Does, IsCreated};
 ghost use Rattle.fs_top.specs.Runs.{run_options, IsReady, IsAhead, Exchanges, Answers, IsPathOnShare, IsStat, IsStatThere, IsStatOpened, IsStatOpen, IsStatKnown};
+ghost use Rattle.fs_top.specs.Course.{ConversesSo};
+ghost use Rattle.fs_top.specs.Progress.{reads_by, ReadsOn};
+ghost use Rattle.fs_top.specs.Talks.{Talks, ExchangesTo};
 
 use crate::client::{Client, OPTIONS, PATIENCE};
 use fs_core::{
@@ -56,6 +65,8 @@ pub(crate) fn stat<S: Source, L: Link, C: Clock>(
 ) -> Result<Answer, Stop>
     requires ready { IsReady client.old.wire }
     ensures answers { Answers (IsStat path.now) number result client.old.wire.next client.new.wire.next (L.story link.old) (L.story link.new) }
+    ensures came { Does (ConversesSo (Talks (IsStat path.now) number) (is_some client.old.ahead.over) (is_some client.new.ahead.over) client.old.wire.received client.new.wire.received result) (seen_by L.story L.connect_faults L.cuts L.quiets link.old) (seen_by L.story L.connect_faults L.cuts L.quiets link.new) }
+    ensures reads { OnOk result (ReadsOn (reads_by S.left S.faults client.old.ahead input.old) (reads_by S.left S.faults client.new.ahead input.new)) }
     ensures ready { IfOk result (λ _. IsReady client.new.wire) }
     ensures ahead { (last : ℕ) → IsAhead last client.old.ahead → IsAhead last client.new.ahead }
 {
@@ -103,6 +114,8 @@ fn stat_short<S: Source, L: Link, C: Clock>(
 ) -> Result<Answer, Stop>
     requires ready { IsReady client.old.wire }
     ensures answers { Answers (IsStatThere path.now) number result client.old.wire.next client.new.wire.next (L.story link.old) (L.story link.new) }
+    ensures came { Does (ConversesSo (Talks (IsStatThere path.now) number) (is_some client.old.ahead.over) (is_some client.new.ahead.over) client.old.wire.received client.new.wire.received result) (seen_by L.story L.connect_faults L.cuts L.quiets link.old) (seen_by L.story L.connect_faults L.cuts L.quiets link.new) }
+    ensures reads { OnOk result (ReadsOn (reads_by S.left S.faults client.old.ahead input.old) (reads_by S.left S.faults client.new.ahead input.new)) }
     ensures ready { IfOk result (λ _. IsReady client.new.wire) }
     ensures ahead { (last : ℕ) → IsAhead last client.old.ahead → IsAhead last client.new.ahead }
 {
@@ -126,6 +139,8 @@ fn stat_there<S: Source, L: Link, C: Clock>(
     requires short { length path.now ≤ 32767 }
     requires ready { IsReady client.old.wire }
     ensures answers { Answers (IsStatThere path.now) number result client.old.wire.next client.new.wire.next (L.story link.old) (L.story link.new) }
+    ensures came { Does (ConversesSo (Talks (IsStatThere path.now) number) (is_some client.old.ahead.over) (is_some client.new.ahead.over) client.old.wire.received client.new.wire.received result) (seen_by L.story L.connect_faults L.cuts L.quiets link.old) (seen_by L.story L.connect_faults L.cuts L.quiets link.new) }
+    ensures reads { OnOk result (ReadsOn (reads_by S.left S.faults client.old.ahead input.old) (reads_by S.left S.faults client.new.ahead input.new)) }
     ensures ready { IfOk result (λ _. IsReady client.new.wire) }
     ensures ahead { (last : ℕ) → IsAhead last client.old.ahead → IsAhead last client.new.ahead }
 {
@@ -156,8 +171,11 @@ fn stat_opened<S: Source, L: Link, C: Clock>(
     number: u64,
     opened: Rep,
 ) -> Result<Answer, Stop>
+    requires created { IsCreated opened }
     requires ready { IsReady client.old.wire }
     ensures answers { Answers (IsStatOpened opened) number result client.old.wire.next client.new.wire.next (L.story link.old) (L.story link.new) }
+    ensures came { Does (ConversesSo (Talks (IsStatOpened opened) number) (is_some client.old.ahead.over) (is_some client.new.ahead.over) client.old.wire.received client.new.wire.received result) (seen_by L.story L.connect_faults L.cuts L.quiets link.old) (seen_by L.story L.connect_faults L.cuts L.quiets link.new) }
+    ensures reads { OnOk result (ReadsOn (reads_by S.left S.faults client.old.ahead input.old) (reads_by S.left S.faults client.new.ahead input.new)) }
     ensures ready { IfOk result (λ _. IsReady client.new.wire) }
     ensures ahead { (last : ℕ) → IsAhead last client.old.ahead → IsAhead last client.new.ahead }
 {
@@ -185,6 +203,8 @@ fn stat_open<S: Source, L: Link, C: Clock>(
 ) -> Result<Answer, Stop>
     requires ready { IsReady client.old.wire }
     ensures answers { Answers (IsStatOpen fid) number result client.old.wire.next client.new.wire.next (L.story link.old) (L.story link.new) }
+    ensures came { Does (ConversesSo (Talks (IsStatOpen fid) number) (is_some client.old.ahead.over) (is_some client.new.ahead.over) client.old.wire.received client.new.wire.received result) (seen_by L.story L.connect_faults L.cuts L.quiets link.old) (seen_by L.story L.connect_faults L.cuts L.quiets link.new) }
+    ensures reads { OnOk result (ReadsOn (reads_by S.left S.faults client.old.ahead input.old) (reads_by S.left S.faults client.new.ahead input.new)) }
     ensures ready { IfOk result (λ _. IsReady client.new.wire) }
     ensures ahead { (last : ℕ) → IsAhead last client.old.ahead → IsAhead last client.new.ahead }
 {
@@ -218,6 +238,8 @@ fn stat_known<S: Source, L: Link, C: Clock>(
 ) -> Result<Answer, Stop>
     requires ready { IsReady client.old.wire }
     ensures answers { Answers (IsStatKnown fid info.now) number result client.old.wire.next client.new.wire.next (L.story link.old) (L.story link.new) }
+    ensures came { Does (ConversesSo (Talks (IsStatKnown fid info.now) number) (is_some client.old.ahead.over) (is_some client.new.ahead.over) client.old.wire.received client.new.wire.received result) (seen_by L.story L.connect_faults L.cuts L.quiets link.old) (seen_by L.story L.connect_faults L.cuts L.quiets link.new) }
+    ensures reads { OnOk result (ReadsOn (reads_by S.left S.faults client.old.ahead input.old) (reads_by S.left S.faults client.new.ahead input.new)) }
     ensures ready { IfOk result (λ _. IsReady client.new.wire) }
     ensures ahead { (last : ℕ) → IsAhead last client.old.ahead → IsAhead last client.new.ahead }
 {
@@ -243,6 +265,8 @@ fn take_place(client: &mut Client, facts: &Facts) -> Result<Place, Stop>
     ensures next { IfOk result (λ _. client.new.wire.next ≡ client.old.wire.next + 1) }
     ensures ready { IsReady client.old.wire → IsReady client.new.wire }
     ensures ahead { client.new.ahead ≡ client.old.ahead }
+    ensures received { client.new.wire.received ≡ client.old.wire.received }
+    ensures starved { IfErr result (λ why. (why ≡ stop.Fault kind.Credit) × (client.old.wire.granted ≤ client.old.wire.next)) }
 {
     match client.wire.take_id() {
         Some(mid) => Ok(place(facts, mid)),
@@ -262,7 +286,9 @@ fn place(facts: &Facts, mid: Mid) -> Place
 }
 
 // What a request costs whose payload is small.
-fn charge(facts: &Facts) -> u16 {
+fn charge(facts: &Facts) -> u16
+    ensures { result ≡ charge_of facts.now.caps }
+{
     if facts.caps.0 & LARGE_MTU == LARGE_MTU {
         1
     } else {
@@ -285,8 +311,12 @@ fn exchange<S: Source, L: Link, C: Clock>(
     requires ready { IsReady client.old.wire }
     requires alone { IsAlone message.now }
     requires command { command_of message.now ≡ command }
+    requires mid { mid_of message.now ≡ mid }
     requires low { mid.0 < 2 ^ 64 - 1 }
+    ensures opened { IfOk result (λ reply. command ≡ 5 → IsCreated reply) }
     ensures leads { Exchanges number mid message.now result (L.story link.old) (L.story link.new) }
+    ensures came { Does (ConversesSo (ExchangesTo number mid message.now) (is_some client.old.ahead.over) (is_some client.new.ahead.over) client.old.wire.received client.new.wire.received result) (seen_by L.story L.connect_faults L.cuts L.quiets link.old) (seen_by L.story L.connect_faults L.cuts L.quiets link.new) }
+    ensures reads { OnOk result (ReadsOn (reads_by S.left S.faults client.old.ahead input.old) (reads_by S.left S.faults client.new.ahead input.new)) }
     ensures next { client.new.wire.next ≡ client.old.wire.next }
     ensures ready { IfOk result (λ _. IsReady client.new.wire) }
     ensures ahead { (last : ℕ) → IsAhead last client.old.ahead → IsAhead last client.new.ahead }

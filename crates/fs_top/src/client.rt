@@ -1,7 +1,8 @@
 //! What the client of a run keeps.
 
-ghost use Rattle.std.specs.Prelude.{◌≡◌, []};
+ghost use Rattle.std.specs.Prelude.{◌≡◌, ℕ, List, [], Option, None, option_map};
 ghost use Rattle.fs_top.specs.Runs.{IsAhead};
+ghost use Rattle.fs_top.specs.Script.{coming_of, to_come};
 
 use crate::ahead::Ahead;
 use fs_core::Wire;
@@ -43,6 +44,8 @@ impl Client {
     pub(crate) fn new(alloc: Global) -> Client
         ensures wire { result.wire ≡ record { frames = []; next = 0; granted = 1; received = 0 } }
         ensures ahead { IsAhead 0 result.ahead }
+        ensures over { result.ahead.over ≡ None }
+        ensures script { (left : Option (List ℕ)) → to_come result.ahead left ≡ option_map coming_of left }
     {
         Client {
             wire: Wire::new(alloc),

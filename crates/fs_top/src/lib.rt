@@ -2,6 +2,8 @@
 #![tactic(auto)]
 
 mod ahead;
+#[cfg(test)]
+mod ahead_tests;
 mod call;
 mod client;
 mod ending;
@@ -12,6 +14,8 @@ mod print;
 mod request;
 mod run;
 mod run_end;
+#[cfg(test)]
+mod run_end_tests;
 #[cfg(test)]
 mod run_tests;
 #[cfg(test)]

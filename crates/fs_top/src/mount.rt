@@ -1,9 +1,14 @@
 //! The mount of a share, and its end.
 
-ghost use Rattle.std.specs.Prelude.{◌≡◌, ◌≤◌, IfOk, IsOk, length};
+ghost use Rattle.std.specs.Prelude.{◌≡◌, ◌≤◌, ◌+◌, IfOk, IsOk, length};
 ghost use Rattle.smb_head.specs.Header.{head_of};
 ghost use Rattle.fs_core.specs.Asking.{IsAsideBody};
+ghost use Rattle.smb_link.specs.Came.{seen_by};
+ghost use Rattle.fs_core.specs.Course.{Does};
 ghost use Rattle.fs_top.specs.Runs.{IsReady, RestsOrLeaves, Joins};
+ghost use Rattle.fs_top.specs.RunEndings.{mount_end};
+ghost use Rattle.fs_top.specs.MountCourse.{MountedBy, SetsUpSession, AnswersChallenge, Greets, SetsUp, Authenticates, ConnectsTree};
+ghost use Rattle.fs_top.specs.Course.{StepsSo, AsksSo, TellsSo, BothSo, LeavesSo, JoinsSo};
 
 use crate::client::{Client, PATIENCE};
 use crate::run_end::End;
@@ -19,9 +24,10 @@ const CONNECTS: u32 = 4;
 
 /// Connects, as many times in a row as are tried.
 pub(crate) fn join<L: Link>(link: &mut L, host: &str, port: u16) -> Result<(), End>
-    ensures { Joins (L.stands link.old) result (L.story link.old) (L.story link.new) }
+    ensures joins { Joins (L.stands link.old) result (L.story link.old) (L.story link.new) }
+    ensures came { Does (JoinsSo (L.stands link.old) result) (seen_by L.story L.connect_faults L.cuts L.quiets link.old) (seen_by L.story L.connect_faults L.cuts L.quiets link.new) }
 {
-    for _ in 0..CONNECTS {
+    for _tried in 0..CONNECTS {
         match link.connect(host, port) {
             Ok(()) => return Ok(()),
             Err(LinkFail::Failed) => {}
@@ -41,6 +47,7 @@ pub(crate) fn mount<L: Link, C: Clock>(
 ) -> Result<Mounted, End>
     requires ready { IsReady client.old.wire }
     ensures leads { RestsOrLeaves result client.old.wire.next client.new.wire.next (L.story link.old) (L.story link.new) }
+    ensures came { Does (StepsSo (MountedBy state) client.old.wire.next client.old.wire.received client.new.wire.received result) (seen_by L.story L.connect_faults L.cuts L.quiets link.old) (seen_by L.story L.connect_faults L.cuts L.quiets link.new) }
     ensures ready { IfOk result (λ _. IsReady client.new.wire) }
     ensures ahead { client.new.ahead ≡ client.old.ahead }
 {
@@ -60,6 +67,7 @@ fn set_up_session<L: Link, C: Clock>(
 ) -> Result<Mounted, End>
     requires ready { IsReady client.old.wire }
     ensures leads { RestsOrLeaves result client.old.wire.next client.new.wire.next (L.story link.old) (L.story link.new) }
+    ensures came { Does (StepsSo (SetsUpSession state) client.old.wire.next client.old.wire.received client.new.wire.received result) (seen_by L.story L.connect_faults L.cuts L.quiets link.old) (seen_by L.story L.connect_faults L.cuts L.quiets link.new) }
     ensures ready { IfOk result (λ _. IsReady client.new.wire) }
     ensures ahead { client.new.ahead ≡ client.old.ahead }
 {
@@ -82,6 +90,7 @@ fn answer_challenge<L: Link, C: Clock>(
 ) -> Result<Mounted, End>
     requires ready { IsReady client.old.wire }
     ensures leads { RestsOrLeaves result client.old.wire.next client.new.wire.next (L.story link.old) (L.story link.new) }
+    ensures came { Does (StepsSo (AnswersChallenge state) client.old.wire.next client.old.wire.received client.new.wire.received result) (seen_by L.story L.connect_faults L.cuts L.quiets link.old) (seen_by L.story L.connect_faults L.cuts L.quiets link.new) }
     ensures ready { IfOk result (λ _. IsReady client.new.wire) }
     ensures ahead { client.new.ahead ≡ client.old.ahead }
 {
@@ -101,6 +110,8 @@ fn negotiate<L: Link, C: Clock>(
 ) -> Result<Negotiated, End>
     requires ready { IsReady client.old.wire }
     ensures leads { RestsOrLeaves result client.old.wire.next client.new.wire.next (L.story link.old) (L.story link.new) }
+    ensures came { Does (StepsSo (Greets state) client.old.wire.next client.old.wire.received client.new.wire.received result) (seen_by L.story L.connect_faults L.cuts L.quiets link.old) (seen_by L.story L.connect_faults L.cuts L.quiets link.new) }
+    ensures next { IfOk result (λ _. client.new.wire.next ≡ client.old.wire.next + 1) }
     ensures ready { IfOk result (λ _. IsReady client.new.wire) }
     ensures ahead { client.new.ahead ≡ client.old.ahead }
 {
@@ -128,6 +139,8 @@ fn set_up<L: Link, C: Clock>(
 ) -> Result<SetUp, End>
     requires ready { IsReady client.old.wire }
     ensures leads { RestsOrLeaves result client.old.wire.next client.new.wire.next (L.story link.old) (L.story link.new) }
+    ensures came { Does (StepsSo (SetsUp state) client.old.wire.next client.old.wire.received client.new.wire.received result) (seen_by L.story L.connect_faults L.cuts L.quiets link.old) (seen_by L.story L.connect_faults L.cuts L.quiets link.new) }
+    ensures next { IfOk result (λ _. client.new.wire.next ≡ client.old.wire.next + 1) }
     ensures ready { IfOk result (λ _. IsReady client.new.wire) }
     ensures ahead { client.new.ahead ≡ client.old.ahead }
 {
@@ -155,6 +168,8 @@ fn authenticate<L: Link, C: Clock>(
 ) -> Result<Authenticated, End>
     requires ready { IsReady client.old.wire }
     ensures leads { RestsOrLeaves result client.old.wire.next client.new.wire.next (L.story link.old) (L.story link.new) }
+    ensures came { Does (StepsSo (Authenticates state) client.old.wire.next client.old.wire.received client.new.wire.received result) (seen_by L.story L.connect_faults L.cuts L.quiets link.old) (seen_by L.story L.connect_faults L.cuts L.quiets link.new) }
+    ensures next { IfOk result (λ _. client.new.wire.next ≡ client.old.wire.next + 1) }
     ensures ready { IfOk result (λ _. IsReady client.new.wire) }
     ensures ahead { client.new.ahead ≡ client.old.ahead }
 {
@@ -182,6 +197,7 @@ fn connect_tree<L: Link, C: Clock>(
 ) -> Result<Mounted, End>
     requires ready { IsReady client.old.wire }
     ensures leads { RestsOrLeaves result client.old.wire.next client.new.wire.next (L.story link.old) (L.story link.new) }
+    ensures came { Does (StepsSo (ConnectsTree state) client.old.wire.next client.old.wire.received client.new.wire.received result) (seen_by L.story L.connect_faults L.cuts L.quiets link.old) (seen_by L.story L.connect_faults L.cuts L.quiets link.new) }
     ensures ready { IfOk result (λ _. IsReady client.new.wire) }
     ensures ahead { client.new.ahead ≡ client.old.ahead }
 {
@@ -209,6 +225,7 @@ pub(crate) fn leave<L: Link, C: Clock>(
 ) -> Result<(), End>
     requires ready { IsReady client.old.wire }
     ensures leads { RestsOrLeaves result client.old.wire.next client.new.wire.next (L.story link.old) (L.story link.new) }
+    ensures came { Does (LeavesSo mounted client.old.wire.next client.old.wire.received client.new.wire.received result) (seen_by L.story L.connect_faults L.cuts L.quiets link.old) (seen_by L.story L.connect_faults L.cuts L.quiets link.new) }
 {
     match mounted.leave(alloc) {
         Ok(requests) => leave_by(alloc, link, clock, client, &requests[0], &requests[1]),
@@ -229,6 +246,7 @@ fn leave_by<L: Link, C: Clock>(
     requires short { (length first.now.body ≤ 100000) × (length second.now.body ≤ 100000) }
     ensures leads { IsAsideBody first.now.command first.now.body → IsAsideBody second.now.command second.now.body
         → RestsOrLeaves result client.old.wire.next client.new.wire.next (L.story link.old) (L.story link.new) }
+    ensures came { Does (BothSo first.now second.now client.old.wire.next client.old.wire.received client.new.wire.received result) (seen_by L.story L.connect_faults L.cuts L.quiets link.old) (seen_by L.story L.connect_faults L.cuts L.quiets link.new) }
 {
     match told(alloc, link, clock, client, first) {
         Ok(()) => told(alloc, link, clock, client, second),
@@ -248,6 +266,8 @@ fn told<L: Link, C: Clock>(
     requires short { length request.now.body ≤ 100000 }
     ensures leads { IsAsideBody request.now.command request.now.body
         → RestsOrLeaves result client.old.wire.next client.new.wire.next (L.story link.old) (L.story link.new) }
+    ensures came { Does (TellsSo request.now client.old.wire.next client.old.wire.received client.new.wire.received result) (seen_by L.story L.connect_faults L.cuts L.quiets link.old) (seen_by L.story L.connect_faults L.cuts L.quiets link.new) }
+    ensures next { IfOk result (λ _. client.new.wire.next ≡ client.old.wire.next + 1) }
     ensures ready { IfOk result (λ _. IsReady client.new.wire) }
 {
     match asked(alloc, link, clock, client, request) {
@@ -268,7 +288,9 @@ fn asked<L: Link, C: Clock>(
     requires short { length request.now.body ≤ 100000 }
     ensures leads { IsAsideBody request.now.command request.now.body
         → RestsOrLeaves result client.old.wire.next client.new.wire.next (L.story link.old) (L.story link.new) }
+    ensures came { Does (AsksSo request.now client.old.wire.next client.old.wire.received client.new.wire.received result) (seen_by L.story L.connect_faults L.cuts L.quiets link.old) (seen_by L.story L.connect_faults L.cuts L.quiets link.new) }
     ensures head { IfOk result (λ part. IsOk (head_of part)) }
+    ensures next { IfOk result (λ _. client.new.wire.next ≡ client.old.wire.next + 1) }
     ensures ready { IfOk result (λ _. IsReady client.new.wire) }
     ensures ahead { client.new.ahead ≡ client.old.ahead }
 {
@@ -287,7 +309,9 @@ fn asked<L: Link, C: Clock>(
 }
 
 // The end for a fault of a mount's reply. A body that is none is a fault of the frame.
-fn end_of(fault: MountFault, frames: u32) -> End {
+fn end_of(fault: MountFault, frames: u32) -> End
+    ensures { result ≡ mount_end fault frames }
+{
     match fault {
         MountFault::Malformed(_) => End::Frame(frames, Kind::Body),
         MountFault::NoMemory => End::Memory,

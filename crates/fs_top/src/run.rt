@@ -1,13 +1,24 @@
 //! A run of a script.
 
-ghost use Rattle.std.specs.Prelude.{◌≡◌, ◌<◌, ◌≤◌, ℕ, List, [], false, IfOk, OnOk, OnErr, option_map, ◌∷◌};
+ghost use Rattle.std.specs.Prelude.{◌≡◌, ◌<◌, ◌≤◌, ℕ, List, [], false, IfOk, OnOk, OnErr, is_some, None, option_map, ◌∷◌, ◌++◌, length};
+ghost use Rattle.std.specs.Char.Escape.{encode_utf16};
+ghost use Rattle.std.specs.Str.{chars};
+ghost use Rattle.smb_names.specs.WireName.{utf16};
 ghost use Rattle.fs_types.specs.declared.call.Call.TheVariants as call;
 ghost use Rattle.smb_link.specs.declared.event.Event.TheVariants as event;
 ghost use Rattle.smb_link.specs.declared.mark.Mark.TheVariants as mark;
 ghost use Rattle.smb_link.specs.Story.{Gains};
 ghost use Rattle.fs_plain.specs.View.{no_view};
 ghost use Rattle.fs_core.specs.Exchange.{resting};
+ghost use Rattle.fs_top.specs.SharePath.{share_path};
+ghost use Rattle.smb_link.specs.Came.{seen_by, Came};
+ghost use Rattle.fs_core.specs.Course.{Does};
+ghost use Rattle.fs_top.specs.Printing.{held_by};
+ghost use Rattle.fs_top.specs.MountCourse.{start_of};
+ghost use Rattle.fs_top.specs.Course.{AnswersAllSo, AnswersOneSo, BeginsSo, PrintsSo, GivesUpSo, ServesSo, MountsSo, RunSo};
 ghost use Rattle.fs_top.specs.Runs.{status_of, IsReady, IsAhead, Finishes, AnswersLine, AnswersAll, AnswerTold, GivesUp, BeginsLine, errno_by};
+ghost use Rattle.fs_top.specs.Script.{end_by, over_of, coming_of, to_come};
+ghost use Rattle.fs_top.specs.Progress.{reads_by, ReadsOn};
 
 use crate::ahead::{Asked, Over};
 use crate::call::stat;
@@ -34,15 +45,14 @@ pub(crate) fn run_script<S: Source, K: Sink, L: Link, C: Clock>(
     share: &str,
     seed: [u8; 16],
 ) -> End
-    ensures { L.stands link.old ≡ false → Finishes seed (status_of result) no_view (L.story link.old) (L.story link.new) }
+    requires short { (length host.now ≤ 255) × (length share.now ≤ 255) }
+    ensures came { Does (RunSo (start_of seed host.now share.now) (option_map coming_of (S.left input.old)) (S.faults input.old) (S.faults input.new) (L.stands link.old) result (held_by K.written K.faults K.stalls out.old) (held_by K.written K.faults K.stalls out.new)) (seen_by L.story L.connect_faults L.cuts L.quiets link.old) (seen_by L.story L.connect_faults L.cuts L.quiets link.new) }
+    ensures finishes { L.stands link.old ≡ false → Finishes seed (status_of result) no_view (L.story link.old) (L.story link.new) }
 {
     let path = match share_path(alloc, host, share) {
         Ok(path) => path,
         Err(NoMemory) => return End::Memory,
     };
-    if path.len() > LONGEST {
-        return End::Memory;
-    }
     match join(link, host, port) {
         Ok(()) => run_joined(
             alloc,
@@ -57,9 +67,6 @@ pub(crate) fn run_script<S: Source, K: Sink, L: Link, C: Clock>(
     }
 }
 
-/// The longest path of a share, in units.
-const LONGEST: usize = 32_767;
-
 // The same once a connection stands.
 fn run_joined<S: Source, K: Sink, L: Link, C: Clock>(
     alloc: Global,
@@ -70,7 +77,8 @@ fn run_joined<S: Source, K: Sink, L: Link, C: Clock>(
     state: New,
     seed: [u8; 16],
 ) -> End
-    ensures { Finishes seed (status_of result) (resting [] [] 0) (L.story link.old) (L.story link.new) }
+    ensures finishes { Finishes seed (status_of result) (resting [] [] 0) (L.story link.old) (L.story link.new) }
+    ensures came { Does (MountsSo state (option_map coming_of (S.left input.old)) (S.faults input.old) (S.faults input.new) result (held_by K.written K.faults K.stalls out.old) (held_by K.written K.faults K.stalls out.new)) (seen_by L.story L.connect_faults L.cuts L.quiets link.old) (seen_by L.story L.connect_faults L.cuts L.quiets link.new) }
 {
     let mut client = Client::new(alloc);
     match mount(alloc, link, clock, &mut client, state) {
@@ -79,26 +87,33 @@ fn run_joined<S: Source, K: Sink, L: Link, C: Clock>(
     }
 }
 
+/// The unit of a backslash.
+const BACKSLASH: u16 = 0x5C;
+
 // The path of a share, `\\HOST\SHARE`, in units of UTF-16 (MS-SMB2 2.2.9).
-fn share_path(alloc: Global, host: &str, share: &str) -> Result<Units, NoMemory> {
-    let mut units = Units::new(alloc);
-    units.push(0x5C)?;
-    units.push(0x5C)?;
+fn share_path(alloc: Global, host: &str, share: &str) -> Result<Units, NoMemory>
+    ensures { IfOk result (λ units. units ≡ share_path host.now share.now) }
+{
+    let mut units = Units::of(alloc, &[BACKSLASH, BACKSLASH])?;
     put_text(&mut units, host)?;
-    units.push(0x5C)?;
+    units.push(BACKSLASH)?;
     put_text(&mut units, share)?;
     Ok(units)
 }
 
 // Appends a text in units of UTF-16.
-fn put_text(units: &mut Units, text: &str) -> Result<(), NoMemory> {
+fn put_text(units: &mut Units, text: &str) -> Result<(), NoMemory>
+    ensures { OnOk result (units.new ≡ units.old ++ utf16 (chars text.now)) }
+{
     for c in text.chars() {
         put_char(units, c)?;
     }
     Ok(())
 }
 
-fn put_char(units: &mut Units, c: char) -> Result<(), NoMemory> {
+fn put_char(units: &mut Units, c: char) -> Result<(), NoMemory>
+    ensures { OnOk result (units.new ≡ units.old ++ encode_utf16 c) }
+{
     let mut room = [0; 2];
     units.extend(c.encode_utf16(&mut room))
 }
@@ -116,7 +131,9 @@ fn serve<S: Source, K: Sink, L: Link, C: Clock>(
 ) -> End
     requires ready { IsReady client.old.wire }
     requires ahead { IsAhead 0 client.old.ahead }
-    ensures { Finishes seed (status_of result) (resting [] [] client.old.wire.next) (L.story link.old) (L.story link.new) }
+    requires more { client.old.ahead.over ≡ None }
+    ensures finishes { Finishes seed (status_of result) (resting [] [] client.old.wire.next) (L.story link.old) (L.story link.new) }
+    ensures came { Does (ServesSo mounted (to_come client.old.ahead (S.left input.old)) (S.faults input.old) (S.faults input.new) (is_some client.old.ahead.over) client.old.wire.received result (held_by K.written K.faults K.stalls out.old) (held_by K.written K.faults K.stalls out.new)) (seen_by L.story L.connect_faults L.cuts L.quiets link.old) (seen_by L.story L.connect_faults L.cuts L.quiets link.new) }
 {
     let facts = mounted.facts();
     match answer_all(alloc, input, out, link, clock, client, &facts) {
@@ -129,7 +146,9 @@ fn serve<S: Source, K: Sink, L: Link, C: Clock>(
 }
 
 // How a run ends whose script is over.
-fn end_by(over: Over) -> End {
+fn end_by(over: Over) -> End
+    ensures { result ≡ end_by over }
+{
     match over {
         Over::End => End::Done,
         Over::Line(number) => End::Line(number),
@@ -149,6 +168,8 @@ fn answer_all<S: Source, K: Sink, L: Link, C: Clock>(
 ) -> Result<Over, End>
     requires ready { IsReady client.old.wire }
     requires ahead { IsAhead 0 client.old.ahead }
+    requires more { client.old.ahead.over ≡ None }
+    ensures came { Does (AnswersAllSo (to_come client.old.ahead (S.left input.old)) (S.faults input.old) (S.faults input.new) (is_some client.old.ahead.over) (is_some client.new.ahead.over) client.old.wire.received client.new.wire.received result (held_by K.written K.faults K.stalls out.old) (held_by K.written K.faults K.stalls out.new)) (seen_by L.story L.connect_faults L.cuts L.quiets link.old) (seen_by L.story L.connect_faults L.cuts L.quiets link.new) }
     ensures answers { AnswersAll result client.old.wire.next client.new.wire.next (L.story link.old) (L.story link.new) }
     ensures ready { IfOk result (λ _. IsReady client.new.wire) }
 {
@@ -169,7 +190,9 @@ fn answer_all<S: Source, K: Sink, L: Link, C: Clock>(
 }
 
 // Why no more lines come.
-fn over_of(client: &Client) -> Over {
+fn over_of(client: &Client) -> Over
+    ensures { result ≡ over_of client.now.ahead.over }
+{
     match client.ahead.over() {
         Some(over) => over,
         None => Over::Line(u64::MAX),
@@ -188,6 +211,9 @@ fn answer_one<S: Source, K: Sink, L: Link, C: Clock>(
     asked: Asked,
 ) -> Result<(), End>
     requires ready { IsReady client.old.wire }
+    requires more { client.old.ahead.over ≡ None }
+    ensures came { Does (AnswersOneSo (is_some client.old.ahead.over) (is_some client.new.ahead.over) client.old.wire.received client.new.wire.received asked result (held_by K.written K.faults K.stalls out.old) (held_by K.written K.faults K.stalls out.new)) (seen_by L.story L.connect_faults L.cuts L.quiets link.old) (seen_by L.story L.connect_faults L.cuts L.quiets link.new) }
+    ensures reads { OnOk result (ReadsOn (reads_by S.left S.faults client.old.ahead input.old) (reads_by S.left S.faults client.new.ahead input.new)) }
     ensures answers { AnswersLine asked.number result client.old.wire.next client.new.wire.next (L.story link.old) (L.story link.new) }
     ensures ready { IfOk result (λ _. IsReady client.new.wire) }
     ensures ahead { (last : ℕ) → IsAhead last client.old.ahead → IsAhead last client.new.ahead }
@@ -216,7 +242,8 @@ fn answer_one<S: Source, K: Sink, L: Link, C: Clock>(
 
 // Puts the mark of a call's beginning into the story.
 fn begin<L: Link>(alloc: Global, link: &mut L, asked: &Asked) -> Result<(), NoMemory>
-    ensures { BeginsLine asked.now result (L.story link.old) (L.story link.new) }
+    ensures begins { BeginsLine asked.now result (L.story link.old) (L.story link.new) }
+    ensures came { Does (BeginsSo asked.now result) (seen_by L.story L.connect_faults L.cuts L.quiets link.old) (seen_by L.story L.connect_faults L.cuts L.quiets link.new) }
 {
     let path = match Text::of(alloc, asked.path.as_str()) {
         Ok(path) => path,
@@ -226,6 +253,8 @@ fn begin<L: Link>(alloc: Global, link: &mut L, asked: &Asked) -> Result<(), NoMe
 }
 
 fn note_begin<L: Link>(link: &mut L, number: u64, lane: u8, path: Text) -> Result<(), NoMemory>
+    ensures told { OnOk result (Came (event.Marked (mark.Begin number lane (call.Stat path)) ∷ []) (seen_by L.story L.connect_faults L.cuts L.quiets link.old) (seen_by L.story L.connect_faults L.cuts L.quiets link.new)) }
+    ensures untold { OnErr result (Came [] (seen_by L.story L.connect_faults L.cuts L.quiets link.old) (seen_by L.story L.connect_faults L.cuts L.quiets link.new)) }
     ensures ok { OnOk result (Gains (event.Marked (mark.Begin number lane (call.Stat path)) ∷ []) (L.story link.old) (L.story link.new)) }
     ensures err { OnErr result (Gains [] (L.story link.old) (L.story link.new)) }
 {
@@ -241,7 +270,8 @@ fn answered<K: Sink, L: Link>(
     number: u64,
     answer: Answer,
 ) -> Result<(), End>
-    ensures { AnswerTold number answer result (L.story link.old) (L.story link.new) }
+    ensures told { AnswerTold number answer result (L.story link.old) (L.story link.new) }
+    ensures came { Does (PrintsSo number answer result (held_by K.written K.faults K.stalls out.old) (held_by K.written K.faults K.stalls out.new)) (seen_by L.story L.connect_faults L.cuts L.quiets link.old) (seen_by L.story L.connect_faults L.cuts L.quiets link.new) }
 {
     let line = match answer_line(alloc, number, &answer) {
         Ok(line) => line,
@@ -260,6 +290,8 @@ fn answered<K: Sink, L: Link>(
 
 // Puts the mark of an answer into the story.
 fn note_answer<L: Link>(link: &mut L, number: u64, answer: Answer) -> Result<(), NoMemory>
+    ensures told { OnOk result (Came (event.Marked (mark.Answer number answer) ∷ []) (seen_by L.story L.connect_faults L.cuts L.quiets link.old) (seen_by L.story L.connect_faults L.cuts L.quiets link.new)) }
+    ensures untold { OnErr result (Came [] (seen_by L.story L.connect_faults L.cuts L.quiets link.old) (seen_by L.story L.connect_faults L.cuts L.quiets link.new)) }
     ensures ok { OnOk result (Gains (event.Marked (mark.Answer number answer) ∷ []) (L.story link.old) (L.story link.new)) }
     ensures err { OnErr result (Gains [] (L.story link.old) (L.story link.new)) }
 {
@@ -275,7 +307,8 @@ fn given_up<K: Sink, L: Link>(
     number: u64,
     end: End,
 ) -> End
-    ensures { GivesUp number result (L.story link.old) (L.story link.new) }
+    ensures gives_up { GivesUp number result (L.story link.old) (L.story link.new) }
+    ensures came { Does (GivesUpSo number end result (held_by K.written K.faults K.stalls out.old) (held_by K.written K.faults K.stalls out.new)) (seen_by L.story L.connect_faults L.cuts L.quiets link.old) (seen_by L.story L.connect_faults L.cuts L.quiets link.new) }
 {
     match errno_by(end) {
         Some(errno) => match answered(alloc, out, link, number, Answer::Err(errno, None)) {

@@ -1,7 +1,10 @@
 //! How a run of a script ends: its status, and the line that is printed last.
 
-ghost use Rattle.std.specs.Prelude.{◌≡◌};
+ghost use Rattle.std.specs.Prelude.{◌≡◌, ◌++◌, IfOk};
 ghost use Rattle.fs_top.specs.Runs.{status_of};
+ghost use Rattle.fs_top.specs.RunEndings.{end_of, kind_text, refused_text, mount_text, text_of};
+ghost use Rattle.fs_top.specs.declared.run_end.End.TheVariants as end;
+ghost use Rattle.smb_mount.specs.declared.fault.MountFault.TheVariants as fault;
 
 use fs_core::{Kind, Stop};
 use smb_base::{NoMemory, Status, Text};
@@ -35,7 +38,9 @@ pub enum End {
 
 impl End {
     /// The end of a run that stops so, after so many frames.
-    pub fn of(stop: Stop, frames: u32) -> End {
+    pub fn of(stop: Stop, frames: u32) -> End
+        ensures { result ≡ end_of stop frames }
+    {
         match stop {
             Stop::NoMemory => End::Memory,
             Stop::Lost => End::Cuts,
@@ -64,7 +69,9 @@ impl End {
     }
 
     /// The line that is printed last; none at status 0 and 8. It fails only for want of memory.
-    pub fn text(&self, alloc: Global) -> Result<Text, NoMemory> {
+    pub fn text(&self, alloc: Global) -> Result<Text, NoMemory>
+        ensures { IfOk result (λ text. text ≡ text_of self.now) }
+    {
         match self {
             End::Done => Text::of(alloc, ""),
             End::Line(number) => line_text(alloc, *number),
@@ -80,23 +87,31 @@ impl End {
     }
 }
 
-fn line_text(alloc: Global, number: u64) -> Result<Text, NoMemory> {
+fn line_text(alloc: Global, number: u64) -> Result<Text, NoMemory>
+    ensures { IfOk result (λ text. text ≡ text_of (end.Line number)) }
+{
     let text = format!(in alloc; "fault 2 line {number}\n")?;
     Ok(Text::of_string(text))
 }
 
-fn connects_text(alloc: Global, number: u32) -> Result<Text, NoMemory> {
+fn connects_text(alloc: Global, number: u32) -> Result<Text, NoMemory>
+    ensures { IfOk result (λ text. text ≡ text_of (end.Connects number)) }
+{
     let text = format!(in alloc; "fault 6 connects {number}\n")?;
     Ok(Text::of_string(text))
 }
 
-fn frame_text(alloc: Global, number: u32, kind: Kind) -> Result<Text, NoMemory> {
+fn frame_text(alloc: Global, number: u32, kind: Kind) -> Result<Text, NoMemory>
+    ensures { IfOk result (λ text. text ≡ text_of (end.Frame number kind)) }
+{
     let word = kind_word(kind);
     let text = format!(in alloc; "fault 5 frame {number} {word}\n")?;
     Ok(Text::of_string(text))
 }
 
-fn kind_word(kind: Kind) -> &'static str {
+fn kind_word(kind: Kind) -> &'static str
+    ensures { result.now ≡ kind_text kind }
+{
     match kind {
         Kind::Length => "length",
         Kind::Head => "head",
@@ -108,7 +123,9 @@ fn kind_word(kind: Kind) -> &'static str {
     }
 }
 
-fn mount_text(alloc: Global, fault: MountFault) -> Result<Text, NoMemory> {
+fn mount_text(alloc: Global, fault: MountFault) -> Result<Text, NoMemory>
+    ensures { IfOk result (λ text. text ≡ mount_text fault) }
+{
     match fault {
         MountFault::Dialect(dialect) => dialect_text(alloc, dialect),
         MountFault::SigningRequired => Text::of(alloc, "fault 4 mount signing\n"),
@@ -122,20 +139,26 @@ fn mount_text(alloc: Global, fault: MountFault) -> Result<Text, NoMemory> {
 }
 
 // A dialect in four upper-case hex digits.
-fn dialect_text(alloc: Global, dialect: u16) -> Result<Text, NoMemory> {
+fn dialect_text(alloc: Global, dialect: u16) -> Result<Text, NoMemory>
+    ensures { IfOk result (λ text. text ≡ mount_text (fault.Dialect dialect)) }
+{
     let digits = hex::encode_upper(alloc, [(dialect / 256) as u8, (dialect % 256) as u8])?;
     let text = format!(in alloc; "fault 4 mount dialect 0x{digits}\n")?;
     Ok(Text::of_string(text))
 }
 
 // A status in eight upper-case hex digits.
-fn status_text(alloc: Global, word: &str, status: Status) -> Result<Text, NoMemory> {
+fn status_text(alloc: Global, word: &str, status: Status) -> Result<Text, NoMemory>
+    ensures { IfOk result (λ text. text ≡ refused_text word.now status.0) }
+{
     let digits = hex::encode_upper(alloc, status.0.to_be_bytes())?;
     let text = format!(in alloc; "fault 4 mount {word} {digits}\n")?;
     Ok(Text::of_string(text))
 }
 
-fn disk_text(alloc: Global, kind: u8) -> Result<Text, NoMemory> {
+fn disk_text(alloc: Global, kind: u8) -> Result<Text, NoMemory>
+    ensures { IfOk result (λ text. text ≡ mount_text (fault.NotDisk kind)) }
+{
     let text = format!(in alloc; "fault 4 mount disk {kind}\n")?;
     Ok(Text::of_string(text))
 }

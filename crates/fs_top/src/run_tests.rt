@@ -4,7 +4,7 @@ use super::*;
 use share_box::{BoxLink, Schedule, Turn, TurnList};
 use share_spec::Req;
 use smb_base::{Bytes, Fid, U64List, Units};
-use smb_link::{Event, MemClock, MemSink, SureSource};
+use smb_link::{Event, MemClock, MemSink, MemSource, Source, SureSource};
 use std::alloc::AllocGlobal;
 use std::process::Abort;
 use std::test::Fail;
@@ -45,16 +45,26 @@ fn clock(rt: &(impl Abort + AllocGlobal)) -> MemClock {
 
 /// A run of this script over a box with these turns.
 fn run(rt: &(impl Abort + AllocGlobal), script: &str, turns: TurnList) -> Outcome {
+    let mut input = SureSource::new(Bytes::of(rt.alloc(), script.as_bytes()).expect(rt, "memory"));
+    run_from(rt, &mut input, &[], turns)
+}
+
+/// A run of what this source gives, over a box with these turns, where the writes with these numbers fail.
+fn run_from<S: Source>(
+    rt: &(impl Abort + AllocGlobal),
+    input: &mut S,
+    fail: &[u64],
+    turns: TurnList,
+) -> Outcome {
     let mut link = BoxLink::new(rt.alloc(), 1_000_000, false, 32, Schedule::List(turns)).expect(
         rt, "memory",
     );
-    let mut input = SureSource::new(Bytes::of(rt.alloc(), script.as_bytes()).expect(rt, "memory"));
-    let mut out = sink(rt, &[]);
+    let mut out = sink(rt, fail);
     let mut time = clock(rt);
     let status = smbfs(
         rt.alloc(),
         &words(rt),
-        &mut input,
+        input,
         &mut out,
         &mut link,
         &mut time,
@@ -219,4 +229,108 @@ fn three_hundred_silences_end_the_run_and_fewer_are_borne(rt: HostRuntime) {
     );
     let list = turns(&rt, 300, Turn::Quiet, Turn::Serve(0));
     prints(&rt, &run(&rt, "0 stat /\n", list), 6, "fault 6 cuts 1\n");
+}
+
+/// What is printed, and with which status, where the write with this number fails.
+fn breaks_off(rt: &(impl Abort + AllocGlobal), number: u64, status: u8, text: &str) {
+    let script = "0 stat /\n0 stat /a\nx";
+    let mut input = SureSource::new(Bytes::of(rt.alloc(), script.as_bytes()).expect(rt, "memory"));
+    prints(
+        rt,
+        &run_from(rt, &mut input, &[number], TurnList::new(rt.alloc())),
+        status,
+        text,
+    );
+}
+
+#[test]
+fn a_sink_that_refuses_a_line_ends_the_run_with_what_was_printed_before(rt: HostRuntime) {
+    breaks_off(&rt, 0, 8, "");
+    breaks_off(&rt, 1, 8, "1 stat dir 0 0755 1 1\n");
+    breaks_off(&rt, 2, 8, "1 stat dir 0 0755 1 1\n2 err 2\n");
+    breaks_off(
+        &rt,
+        3,
+        2,
+        "1 stat dir 0 0755 1 1\n2 err 2\nfault 2 line 3\n",
+    );
+}
+
+/// Adds a comment of so many bytes, its line end not counted.
+fn put_comment(rt: &(impl Abort + AllocGlobal), script: &mut Vec<u8>, len: usize) {
+    script.push(0x23).expect(rt, "memory");
+    for _ in 1..len {
+        script.push(0x78).expect(rt, "memory");
+    }
+    script.push(0x0A).expect(rt, "memory");
+}
+
+/// Three calls, each with a comment behind it that fills a piece of 8,192 bytes, so that each piece is a read of its own.
+fn three_pieces(rt: &(impl Abort + AllocGlobal)) -> Bytes {
+    let mut script = Vec::new(rt.alloc());
+    script.extend_from_slice(b"0 stat /\n").expect(rt, "memory");
+    put_comment(rt, &mut script, 8_182);
+    script
+        .extend_from_slice(b"0 stat /a\n")
+        .expect(rt, "memory");
+    put_comment(rt, &mut script, 8_181);
+    script
+        .extend_from_slice(b"0 stat /b/c\n")
+        .expect(rt, "memory");
+    put_comment(rt, &mut script, 8_179);
+    Bytes::of(rt.alloc(), script.as_slice()).expect(rt, "memory")
+}
+
+/// What is printed, and with which status, where the read with this number fails.
+fn dries_up(rt: &(impl Abort + AllocGlobal), number: u64, status: u8, text: &str) {
+    let fail = U64List::of(rt.alloc(), &[number]).expect(rt, "memory");
+    let mut input = MemSource::new(three_pieces(rt), fail);
+    prints(
+        rt,
+        &run_from(rt, &mut input, &[], TurnList::new(rt.alloc())),
+        status,
+        text,
+    );
+}
+
+#[test]
+fn a_source_that_fails_ends_the_script_once_the_calls_before_it_are_answered(rt: HostRuntime) {
+    dries_up(&rt, 0, 7, "fault 7 source\n");
+    dries_up(&rt, 1, 7, "1 stat dir 0 0755 1 1\nfault 7 source\n");
+    dries_up(
+        &rt,
+        2,
+        7,
+        "1 stat dir 0 0755 1 1\n3 err 2\nfault 7 source\n",
+    );
+    dries_up(
+        &rt,
+        3,
+        7,
+        "1 stat dir 0 0755 1 1\n3 err 2\n5 err 2\nfault 7 source\n",
+    );
+    dries_up(&rt, 4, 0, "1 stat dir 0 0755 1 1\n3 err 2\n5 err 2\n");
+}
+
+/// What is printed, and with which status, where the second line is a comment of so many bytes.
+fn passes_over(rt: &(impl Abort + AllocGlobal), len: usize, status: u8, text: &str) {
+    let mut script = Vec::new(rt.alloc());
+    script.extend_from_slice(b"0 stat /\n").expect(rt, "memory");
+    put_comment(rt, &mut script, len);
+    script
+        .extend_from_slice(b"0 stat /a\n")
+        .expect(rt, "memory");
+    let mut input = SureSource::new(Bytes::of(rt.alloc(), script.as_slice()).expect(rt, "memory"));
+    prints(
+        rt,
+        &run_from(rt, &mut input, &[], TurnList::new(rt.alloc())),
+        status,
+        text,
+    );
+}
+
+#[test]
+fn a_comment_of_540000_bytes_is_passed_over_and_a_longer_one_is_refused(rt: HostRuntime) {
+    passes_over(&rt, 540_000, 0, "1 stat dir 0 0755 1 1\n3 err 2\n");
+    passes_over(&rt, 540_001, 2, "1 stat dir 0 0755 1 1\nfault 2 line 2\n");
 }

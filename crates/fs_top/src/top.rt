@@ -1,6 +1,6 @@
 //! The top call.
 
-ghost use Rattle.std.specs.Prelude.{◌≡◌, ◌≢◌, ◌⊎◌, List, [], Some, true, false, map, string_bytes};
+ghost use Rattle.std.specs.Prelude.{◌≡◌, ◌≢◌, ◌⊎◌, ℕ, List, [], Some, true, false, map, option_map, string_bytes};
 ghost use Rattle.smb_link.specs.declared.event.Event.{Event};
 ghost use Rattle.fs_top.specs.declared.ending.Ending.{Ending};
 ghost use Rattle.smb_link.specs.Came.{seen_by, Came};
@@ -9,8 +9,12 @@ ghost use Rattle.fs_top.specs.Printing.{held_by, TookAll, TookFront};
 ghost use Rattle.fs_plain.specs.Answered.{ended_by};
 ghost use Rattle.fs_plain.specs.Moves.{PlainAnswers};
 ghost use Rattle.fs_top.specs.Run.{Ran, Causes, Printed};
+ghost use Rattle.fs_top.specs.RunEndings.{PrintedEnd};
+ghost use Rattle.fs_top.specs.Course.{RunEnds};
+ghost use Rattle.fs_top.specs.Script.{coming_of};
 ghost use Rattle.fs_top.specs.Runs.{run_options, status_of};
-ghost use Rattle.fs_top.specs.Words.{AreRun};
+ghost use Rattle.fs_top.specs.MountCourse.{start_of};
+ghost use Rattle.fs_top.specs.Words.{IsRun, AreRun};
 
 use crate::ending::{Ending, MEMORY_TEXT};
 use crate::ping::ping;
@@ -55,6 +59,14 @@ pub fn smbfs<S: Source, K: Sink, L: Link, C: Clock>(
     ensures source { (AreRun (map string_bytes words.now.items) → ⊥) → input.new ≡ input.old }
     ensures clock { (AreRun (map string_bytes words.now.items) → ⊥) → clock.new ≡ clock.old }
 
+    // A run, event by event: its connects, the requests of the mount of that share and the replies that accept it, the calls of its script
+    // with their answers, what is printed of them, the leaving of the share, the cause of its end and the last line. Where the source tells
+    // its bytes, the calls are those that the script asks for.
+    ensures runs { (host : List ℕ) (port : ℕ) (share : List ℕ) → IsRun (map string_bytes words.now.items) host port share
+        → RunEnds (start_of seed host share) (option_map coming_of (S.left input.old)) (S.faults input.old) (S.faults input.new) (L.stands link.old)
+        (seen_by L.story L.connect_faults L.cuts L.quiets link.old) (seen_by L.story L.connect_faults L.cuts L.quiets link.new)
+        (held_by K.written K.faults K.stalls out.old) (held_by K.written K.faults K.stalls out.new) result }
+
     // Every answer of a run is the plain client's: where the link tells its story from its beginning on, and an honest share tells one
     // like it, the plain client has the same answers, and so have the others.
     ensures plain { AreRun (map string_bytes words.now.items) → L.stands link.old ≡ false → L.story link.old ≡ Some []
@@ -90,7 +102,8 @@ fn run_ping<K: Sink, L: Link>(
 
 /// Prints the last line of a run of a script, and answers its status; 8 where the sink refuses the line.
 fn close<K: Sink>(alloc: Global, out: &mut K, end: &End) -> u8
-    ensures { ended_by (status_of end.now) result ≡ true }
+    ensures ended { ended_by (status_of end.now) result ≡ true }
+    ensures printed { PrintedEnd end.now (held_by K.written K.faults K.stalls out.old) (held_by K.written K.faults K.stalls out.new) result }
 {
     match end.text(alloc) {
         Ok(text) => print_line(out, text.as_str(), end.status()),

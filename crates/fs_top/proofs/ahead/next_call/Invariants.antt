@@ -1,8 +1,14 @@
-use Rattle.std.proofs.Common.{◌≤◌, ◌-◌, ◌^◌}
+use Rattle.std.proofs.Common.{◌≡◌, ◌≤◌, ◌-◌, ◌^◌}
+use Rattle.fs_top.specs.Script.{lines_to_come}
 use Rattle.fs_top.proofs.ahead.next_call.Given as goal
 
+-- what is to come is the same after lines that ask for nothing
 abbrev pub invariant-loop-alloc : goal.invariant-loop-alloc
-invariant-loop-alloc g l = l.fn.lines.number ≤ l.lines.number
+invariant-loop-alloc g l = record {
+  on : l.fn.lines.number ≤ l.lines.number;
+  comes : lines_to_come l.fn.lines (g.S.Source.left l.fn.input) ≡ lines_to_come l.lines (g.S.Source.left l.input);
+  faults : g.S.Source.faults l.input ≡ g.S.Source.faults l.fn.input;
+}
 
 -- the numbers that lines may still have
 abbrev pub decreases-loop-alloc : goal.decreases-loop-alloc

@@ -1,8 +1,17 @@
+use Rattle.fs_top.specs.Talks.{Talks, ExchangesTo}
+use Rattle.fs_top.proofs.Talking.{talks_last}
 use Rattle.std.proofs.Common.{◌+◌, ◌∙◌, sym, ap, ℕ}
 use Rattle.fs_types.specs.declared.answer.Answer.{Answer}
 use Rattle.smb_link.specs.Program.{Say}
 use Rattle.fs_top.specs.Runs.{IsStatKnown}
 use Rattle.fs_top.proofs.Calling.{answers_nothing, answers_last, answers_break, close_next, close_says}
+use Rattle.smb_link.specs.Came.{seen_by}
+use Rattle.std.specs.Prelude.{is_some}
+use Rattle.share_spec.specs.declared.request.Rep.{Rep}
+use Rattle.fs_top.specs.declared.ahead.Ahead.{Ahead}
+use Rattle.fs_top.proofs.Courses.{converses_starved, converses_memory, converses_stop, converses_after, converses_last}
+use Rattle.fs_top.specs.Progress.{reads_by}
+use Rattle.fs_top.proofs.Progressing.{reads_from}
 use Rattle.fs_top.proofs.call.stat_known.Goals as goal
 
 pub returns-in-Err-clause-answers : goal.returns-in-Err-clause-answers
@@ -27,3 +36,33 @@ returns-in-Ok-exchange-clause-answers g c =
     (close_next c.args.fid c.args.info.now c.in-Ok.place.mid c.in-Ok-close_message.message c.in-Ok-close_message.ensures.asked c.in-Ok-close_message.ensures.mid)
     (λ i p. close_says c.args.fid c.args.info.now c.in-Ok-exchange.field-0 c.in-Ok.place.mid i p ∙ ap (λ (a : Answer). Say a) (sym c.stat_answer.ensures))
     c.in-Ok-exchange.ensures.leads
+
+pub returns-in-Err-clause-came : goal.returns-in-Err-clause-came
+returns-in-Err-clause-came g c =
+    converses_starved (Talks (IsStatKnown c.args.fid c.args.info.now) c.args.number) (is_some c.args.client.now.ahead.over) (is_some c.take_place.new.client.ahead.over) c.args.client.now.wire.received c.take_place.new.client.wire.received c.in-Err.stop (seen_by g.L.Link.story g.L.Link.connect_faults g.L.Link.cuts g.L.Link.quiets c.args.link.now)
+    c.in-Err.ensures.received c.in-Err.ensures.starved.0
+
+pub returns-in-Err-close_message-clause-came : goal.returns-in-Err-close_message-clause-came
+returns-in-Err-close_message-clause-came g c =
+    converses_memory (Talks (IsStatKnown c.args.fid c.args.info.now) c.args.number) (is_some c.args.client.now.ahead.over) (is_some c.take_place.new.client.ahead.over) c.args.client.now.wire.received c.take_place.new.client.wire.received (seen_by g.L.Link.story g.L.Link.connect_faults g.L.Link.cuts g.L.Link.quiets c.args.link.now)
+
+pub returns-clause-came : goal.returns-clause-came
+returns-clause-came g c =
+    let seen = seen_by g.L.Link.story g.L.Link.connect_faults g.L.Link.cuts g.L.Link.quiets in
+    converses_stop (ExchangesTo c.args.number c.in-Ok.place.mid c.in-Ok-close_message.message) (Talks (IsStatKnown c.args.fid c.args.info.now) c.args.number) c.in-Err-exchange.stop (is_some c.args.client.now.ahead.over) (is_some c.take_place.new.client.ahead.over) (is_some c.exchange.new.client.ahead.over) (is_some c.exchange.new.client.ahead.over)
+    c.args.client.now.wire.received c.take_place.new.client.wire.received c.exchange.new.client.wire.received (seen c.args.link.now) (seen c.exchange.new.link)
+    (ap (λ (a : Ahead). is_some a.over) c.in-Ok.ensures.ahead) c.in-Ok.ensures.received c.in-Err-exchange.ensures.came
+
+pub returns-in-Ok-exchange-clause-came : goal.returns-in-Ok-exchange-clause-came
+returns-in-Ok-exchange-clause-came g c =
+    let seen = seen_by g.L.Link.story g.L.Link.connect_faults g.L.Link.cuts g.L.Link.quiets in
+    converses_last c.in-Ok-exchange.field-0 c.stat_answer.result (ExchangesTo c.args.number c.in-Ok.place.mid c.in-Ok-close_message.message) (Talks (IsStatKnown c.args.fid c.args.info.now) c.args.number) (is_some c.args.client.now.ahead.over) (is_some c.take_place.new.client.ahead.over) (is_some c.exchange.new.client.ahead.over)
+    c.args.client.now.wire.received c.take_place.new.client.wire.received c.exchange.new.client.wire.received (seen c.args.link.now) (seen c.exchange.new.link)
+    (ap (λ (a : Ahead). is_some a.over) c.in-Ok.ensures.ahead) c.in-Ok.ensures.received
+    (λ xs one. talks_last (IsStatKnown c.args.fid c.args.info.now) c.args.number c.in-Ok.place.mid c.in-Ok-close_message.message c.in-Ok-exchange.field-0 c.stat_answer.result xs (close_next c.args.fid c.args.info.now c.in-Ok.place.mid c.in-Ok-close_message.message c.in-Ok-close_message.ensures.asked c.in-Ok-close_message.ensures.mid) (λ i p. close_says c.args.fid c.args.info.now c.in-Ok-exchange.field-0 c.in-Ok.place.mid i p ∙ ap (λ (a : Answer). Say a) (sym c.stat_answer.ensures)) one)
+    c.in-Ok-exchange.ensures.came
+
+pub returns-in-Ok-exchange-clause-reads : goal.returns-in-Ok-exchange-clause-reads
+returns-in-Ok-exchange-clause-reads g c =
+    let at = reads_by g.S.Source.left g.S.Source.faults in
+    reads_from c.args.client.now.ahead c.take_place.new.client.ahead (g.S.Source.left c.args.input.now) (g.S.Source.faults c.args.input.now) (at c.exchange.new.client.ahead c.exchange.new.input) c.in-Ok.ensures.ahead c.in-Ok-exchange.ensures.reads

@@ -1,6 +1,16 @@
+use Rattle.fs_top.specs.Talks.{Talks, ExchangesTo}
+use Rattle.fs_top.proofs.Talking.{talks_on}
 use Rattle.std.proofs.Common.{◌+◌, ◌∙◌, sym, ap, ℕ}
 use Rattle.fs_top.specs.Runs.{IsStatThere, IsStatOpened}
 use Rattle.fs_top.proofs.Calling.{answers_nothing, answers_on, answers_break, create_next, create_lands}
+use Rattle.smb_link.specs.Came.{seen_by}
+use Rattle.std.specs.Prelude.{is_some}
+use Rattle.share_spec.specs.declared.request.Rep.{Rep}
+use Rattle.fs_types.specs.declared.answer.Answer.{Answer}
+use Rattle.fs_top.specs.declared.ahead.Ahead.{Ahead}
+use Rattle.fs_top.proofs.Courses.{converses_starved, converses_memory, converses_stop, converses_after, converses_last}
+use Rattle.fs_top.specs.Progress.{reads_by}
+use Rattle.fs_top.proofs.Progressing.{reads_from, reads_after}
 use Rattle.fs_top.proofs.call.stat_there.Goals as goal
 
 pub returns-in-Err-clause-answers : goal.returns-in-Err-clause-answers
@@ -26,3 +36,36 @@ returns-clause-answers g c =
     (sym c.in-Ok.ensures.mid.0)
     (create_next c.args.path.now c.in-Ok.place.mid c.in-Ok-create_message.message c.in-Ok-create_message.ensures.asked c.in-Ok-create_message.ensures.mid)
     c.in-Err-exchange.ensures.leads
+
+pub returns-in-Err-clause-came : goal.returns-in-Err-clause-came
+returns-in-Err-clause-came g c =
+    converses_starved (Talks (IsStatThere c.args.path.now) c.args.number) (is_some c.args.client.now.ahead.over) (is_some c.take_place.new.client.ahead.over) c.args.client.now.wire.received c.take_place.new.client.wire.received c.in-Err.stop (seen_by g.L.Link.story g.L.Link.connect_faults g.L.Link.cuts g.L.Link.quiets c.args.link.now)
+    c.in-Err.ensures.received c.in-Err.ensures.starved.0
+
+pub returns-in-Err-create_message-clause-came : goal.returns-in-Err-create_message-clause-came
+returns-in-Err-create_message-clause-came g c =
+    converses_memory (Talks (IsStatThere c.args.path.now) c.args.number) (is_some c.args.client.now.ahead.over) (is_some c.take_place.new.client.ahead.over) c.args.client.now.wire.received c.take_place.new.client.wire.received (seen_by g.L.Link.story g.L.Link.connect_faults g.L.Link.cuts g.L.Link.quiets c.args.link.now)
+
+pub returns-clause-came : goal.returns-clause-came
+returns-clause-came g c =
+    let seen = seen_by g.L.Link.story g.L.Link.connect_faults g.L.Link.cuts g.L.Link.quiets in
+    converses_stop (ExchangesTo c.args.number c.in-Ok.place.mid c.in-Ok-create_message.message) (Talks (IsStatThere c.args.path.now) c.args.number) c.in-Err-exchange.stop (is_some c.args.client.now.ahead.over) (is_some c.take_place.new.client.ahead.over) (is_some c.exchange.new.client.ahead.over) (is_some c.exchange.new.client.ahead.over)
+    c.args.client.now.wire.received c.take_place.new.client.wire.received c.exchange.new.client.wire.received (seen c.args.link.now) (seen c.exchange.new.link)
+    (ap (λ (a : Ahead). is_some a.over) c.in-Ok.ensures.ahead) c.in-Ok.ensures.received c.in-Err-exchange.ensures.came
+
+pub returns-in-Ok-exchange-clause-came : goal.returns-in-Ok-exchange-clause-came
+returns-in-Ok-exchange-clause-came g c =
+    let seen = seen_by g.L.Link.story g.L.Link.connect_faults g.L.Link.cuts g.L.Link.quiets in
+    converses_after c.in-Ok-exchange.opened c.stat_opened.result (ExchangesTo c.args.number c.in-Ok.place.mid c.in-Ok-create_message.message) (Talks (IsStatOpened c.in-Ok-exchange.opened) c.args.number) (Talks (IsStatThere c.args.path.now) c.args.number) (is_some c.args.client.now.ahead.over) (is_some c.take_place.new.client.ahead.over) (is_some c.exchange.new.client.ahead.over) (is_some c.stat_opened.new.client.ahead.over)
+    c.args.client.now.wire.received c.take_place.new.client.wire.received c.exchange.new.client.wire.received c.stat_opened.new.client.wire.received
+    (seen c.args.link.now) (seen c.exchange.new.link) (seen c.stat_opened.new.link)
+    (ap (λ (a : Ahead). is_some a.over) c.in-Ok.ensures.ahead) c.in-Ok.ensures.received
+    (λ a xs ys one later. talks_on (IsStatThere c.args.path.now) (IsStatOpened c.in-Ok-exchange.opened) c.args.number c.in-Ok.place.mid c.in-Ok-create_message.message c.in-Ok-exchange.opened a xs ys (create_next c.args.path.now c.in-Ok.place.mid c.in-Ok-create_message.message c.in-Ok-create_message.ensures.asked c.in-Ok-create_message.ensures.mid) (create_lands c.args.path.now c.in-Ok.place.mid c.in-Ok-exchange.opened) one later)
+    c.in-Ok-exchange.ensures.came c.stat_opened.ensures.came
+
+pub returns-in-Ok-exchange-clause-reads : goal.returns-in-Ok-exchange-clause-reads
+returns-in-Ok-exchange-clause-reads g c =
+    let at = reads_by g.S.Source.left g.S.Source.faults in
+    reads_after c.stat_opened.result (at c.args.client.now.ahead c.args.input.now) (at c.exchange.new.client.ahead c.exchange.new.input) (at c.stat_opened.new.client.ahead c.stat_opened.new.input)
+    (reads_from c.args.client.now.ahead c.take_place.new.client.ahead (g.S.Source.left c.args.input.now) (g.S.Source.faults c.args.input.now) (at c.exchange.new.client.ahead c.exchange.new.input) c.in-Ok.ensures.ahead c.in-Ok-exchange.ensures.reads)
+    c.stat_opened.ensures.reads

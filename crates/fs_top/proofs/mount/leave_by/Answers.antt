@@ -1,9 +1,15 @@
+use Rattle.smb_link.specs.Came.{seen_by}
 use Rattle.fs_top.proofs.Steps.{rests_then}
+use Rattle.fs_top.proofs.Courses.{both_then}
 use Rattle.fs_top.proofs.mount.leave_by.Goals as goal
 
 pub returns-in-Ok : goal.returns-in-Ok
-returns-in-Ok g c = record {
-  leads = λ one two.
-      rests_then c.told-in-Ok.result c.args.client.now.wire.next c.told.new.client.wire.next c.told-in-Ok.new.client.wire.next
-      (g.L.Link.story c.args.link.now) (g.L.Link.story c.told.new.link) (g.L.Link.story c.told-in-Ok.new.link) (c.in-Ok.ensures.leads one) (c.told-in-Ok.ensures.leads two);
-}
+returns-in-Ok g c =
+    let seen = seen_by g.L.Link.story g.L.Link.connect_faults g.L.Link.cuts g.L.Link.quiets in
+    record {
+      leads = λ one two.
+          rests_then c.told-in-Ok.result c.args.client.now.wire.next c.told.new.client.wire.next c.told-in-Ok.new.client.wire.next
+          (g.L.Link.story c.args.link.now) (g.L.Link.story c.told.new.link) (g.L.Link.story c.told-in-Ok.new.link) (c.in-Ok.ensures.leads one) (c.told-in-Ok.ensures.leads two);
+      came = both_then c.args.first.now c.args.second.now c.args.client.now.wire.next c.told.new.client.wire.next c.args.client.now.wire.received c.told.new.client.wire.received c.told-in-Ok.new.client.wire.received c.told-in-Ok.result
+          (seen c.args.link.now) (seen c.told.new.link) (seen c.told-in-Ok.new.link) c.in-Ok.ensures.next c.in-Ok.ensures.came c.told-in-Ok.ensures.came;
+    }

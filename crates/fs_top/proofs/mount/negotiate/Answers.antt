@@ -2,6 +2,15 @@ use Rattle.fs_plain.proofs.Leaving.{leaves_now}
 use Rattle.fs_core.specs.Exchange.{resting}
 use Rattle.fs_top.proofs.Mounting.{negotiate_asks}
 use Rattle.fs_top.proofs.Steps.{rests_leaves}
+use Rattle.smb_link.specs.Came.{seen_by}
+use Rattle.std.proofs.Common.{inl, sym, subst, ℕ, List, [], Ok, Err}
+use Rattle.smb_head.specs.Header.{head_of}
+use Rattle.smb_mount.specs.Requests.{negotiate}
+use Rattle.smb_mount.specs.Verdicts.{NegotiateEnds}
+use Rattle.fs_core.specs.Course.{Does}
+use Rattle.fs_top.specs.declared.run_end.End.{End}
+use Rattle.fs_top.specs.Course.{Broken, IsRefusal}
+use Rattle.fs_top.proofs.Courses.{step_taken, steps_refused}
 use Rattle.fs_top.proofs.mount.negotiate.Goals as goal
 
 pub returns-in-Err-clause-leads : goal.returns-in-Err-clause-leads
@@ -17,3 +26,16 @@ pub returns-clause-leads : goal.returns-clause-leads
 returns-clause-leads g c =
     rests_leaves c.args.client.now.wire.next c.asked.new.client.wire.next
     (g.L.Link.story c.args.link.now) (g.L.Link.story c.asked.new.link) (c.in-Ok-asked.ensures.leads (negotiate_asks _ c.in-Ok.request c.in-Ok.ensures.value c.in-Ok.ensures.written))
+
+pub returns-in-Ok-reply-clause-came : goal.returns-in-Ok-reply-clause-came
+returns-in-Ok-reply-clause-came g c =
+    let seen = seen_by g.L.Link.story g.L.Link.connect_faults g.L.Link.cuts g.L.Link.quiets in
+    step_taken c.in-Ok.request (negotiate c.args.state.guid) (λ (part : List ℕ). NegotiateEnds c.args.state (head_of part) part (Ok c.in-Ok-reply.next)) c.args.client.now.wire.next c.as_slice.result.now c.in-Ok-asked.part
+    c.args.client.now.wire.received c.asked.new.client.wire.received (seen c.args.link.now) (seen c.asked.new.link) c.in-Ok.ensures.value c.as_slice.ensures c.in-Ok-asked.ensures.came c.in-Ok-reply.ensures
+
+pub returns-clause-came : goal.returns-clause-came
+returns-clause-came g c =
+    let seen = seen_by g.L.Link.story g.L.Link.connect_faults g.L.Link.cuts g.L.Link.quiets in
+    let refuses : IsRefusal c.in-Err-reply.fault c.in-Ok-asked.part = inl (c.args.state, subst (λ (p : List ℕ). NegotiateEnds c.args.state (head_of p) p (Err c.in-Err-reply.fault)) c.as_slice.ensures c.in-Err-reply.ensures) in
+    subst (λ (e : End). Does (Broken c.args.client.now.wire.received c.asked.new.client.wire.received [] e) (seen c.args.link.now) (seen c.asked.new.link)) (sym c.end_of.ensures)
+    (steps_refused c.in-Ok.request c.args.client.now.wire.next c.in-Err-reply.fault c.args.client.now.wire.received c.asked.new.client.wire.received c.in-Ok-asked.part (seen c.args.link.now) (seen c.asked.new.link) c.in-Ok-asked.ensures.came refuses)

@@ -1,0 +1,331 @@
+-- The calls of a script, one after the other: what is said and printed of them.
+use Rattle.std.proofs.Common.{rules, ◌≡◌, ◌⊎◌, inl, inr, ℕ, ◌+◌, Bool, true, false, List, [], ◌∷◌, ◌++◌, length, refl, ap, sym, ◌∙◌, subst, append_assoc, append-nil, Option, Some, None, Result, Ok, Err, arith}
+use Rattle.std.proofs.lemmas.List.Folds.{list_all-append}
+use Rattle.std.specs.List.{list_all}
+use Rattle.std.specs.Prelude.{OnOk, OnErr, option_map}
+use Rattle.smb_base.specs.declared.names.NoMemory.{NoMemory}
+use Rattle.smb_head.specs.Stream.{rest_in}
+use Rattle.fs_types.specs.declared.answer.Answer.{Answer}
+use Rattle.smb_link.specs.declared.event.Event.{Event}
+use Rattle.smb_link.specs.declared.event.Event.TheVariants as event
+use Rattle.smb_link.specs.declared.mark.Mark.{Mark}
+use Rattle.smb_link.specs.declared.mark.Mark.TheVariants as mark
+use Rattle.smb_link.specs.Came.{Seen, Came}
+use Rattle.smb_link.proofs.CameLaws.{came_none, came_then}
+use Rattle.fs_script.specs.Answers.{line_of}
+use Rattle.fs_core.specs.declared.wire.Stop.{Stop}
+use Rattle.fs_core.specs.declared.wire.Stop.TheVariants as stop
+use Rattle.fs_core.specs.Course.{Does, bytes_got, frames_got}
+use Rattle.fs_core.proofs.Courses.{rest_none, frames_none}
+use Rattle.fs_top.specs.declared.ahead.Asked.{Asked}
+use Rattle.fs_top.specs.declared.run_end.End.{End}
+use Rattle.fs_top.specs.declared.run_end.End.TheVariants as end
+use Rattle.fs_top.specs.Printing.{Held, gained, TookAll, TookFront, Refused}
+use Rattle.fs_top.specs.Runs.{errno_by, IsStat}
+use Rattle.fs_top.specs.Talks.{Talks}
+use Rattle.fs_top.specs.RunEndings.{end_of}
+use Rattle.fs_top.specs.Course.{said, calls_in, ordered, IsOrdered, Stretch, Stopped, ConversesSo, CauseOf, is_mark, Broken, begins, answers, unanswered, dialogue, lines, AnswersSo, LeavesCall, LeftSo, AnswersOneSo, BeginsSo, PrintsSo, GivesUpBy, GivesUpSo, LooksSo}
+use Rattle.fs_top.proofs.Courses.{said-append, calls_in-append, ordered_then, is_ordered_then, stretch_none, stretch_then, broken_then, broken_at, cause_of_stop}
+
+-- nothing is printed
+gained_none : (so_far : Option (List ℕ)) → so_far ≡ gained so_far []
+gained_none None = refl
+gained_none (Some bytes) = ap Some (sym (append-nil bytes))
+
+pub took_none : (h : Held) → TookAll [] h h
+took_none h = record { text_held = gained_none h.written; same_faults = refl; same_stalls = refl }
+
+gained_then : (so_far : Option (List ℕ)) (xs ys : List ℕ) → gained (gained so_far xs) ys ≡ gained so_far (xs ++ ys)
+gained_then None xs ys = refl
+gained_then (Some bytes) xs ys = ap Some (append_assoc bytes xs ys)
+
+-- one text, and then another
+pub took_then : (xs ys : List ℕ) (h k m : Held) → TookAll xs h k → TookAll ys k m → TookAll (xs ++ ys) h m
+took_then xs ys h k m first last = record {
+  text_held = last.text_held ∙ ap (λ (w : Option (List ℕ)). gained w ys) first.text_held ∙ gained_then h.written xs ys;
+  same_faults = last.same_faults ∙ first.same_faults;
+  same_stalls = last.same_stalls ∙ first.same_stalls;
+}
+
+-- a mark as a stretch
+marked : (m : Mark) (n : ℕ) → (marks : List Mark) → said (event.Marked m ∷ []) ≡ marks → Stretch n n marks (event.Marked m ∷ [])
+marked m n marks is = let s = stretch_none n in record { whole = s.whole; counted = s.counted; says = is }
+
+-- a line's call begins
+pub begins_ok : (x : Asked) (result : Result (Unit {0}) NoMemory) (old new : Seen) → OnOk result (Came (event.Marked (begins x) ∷ []) old new) → OnErr result (Came [] old new)
+    → Does (BeginsSo x result) old new
+begins_ok x (Ok u) old new told untold = (event.Marked (begins x) ∷ [], told, refl)
+begins_ok x (Err e) old new told untold = ([], untold, refl)
+
+pub begins_not : (x : Asked) (e : NoMemory) (seen : Seen) → Does (BeginsSo x (Err e)) seen seen
+begins_not x e seen = ([], came_none seen, refl)
+
+-- an answer is told and printed
+pub prints_not : (number : ℕ) (a : Answer) (old new : Seen) (h : Held) → Came [] old new → Does (PrintsSo number a (Err end.Memory) h h) old new
+prints_not number a old new h came = ([], came, (refl, refl, took_none h))
+
+pub prints_all : (number : ℕ) (a : Answer) (text : List ℕ) (old new : Seen) (h k : Held) → text ≡ line_of number a → Came (event.Marked (mark.Answer number a) ∷ []) old new → TookAll text h k
+    → Does (PrintsSo number a (Ok tt) h k) old new
+prints_all number a text old new h k is came took = (event.Marked (mark.Answer number a) ∷ [], came, (refl, subst (λ (t : List ℕ). TookAll t h k) is took))
+
+pub prints_front : (number : ℕ) (a : Answer) (text : List ℕ) (old new : Seen) (h k : Held) → text ≡ line_of number a → Came (event.Marked (mark.Answer number a) ∷ []) old new → TookFront text h k
+    → Does (PrintsSo number a (Err end.Sink) h k) old new
+prints_front number a text old new h k is came took = (event.Marked (mark.Answer number a) ∷ [], came, (refl, subst (λ (t : List ℕ). TookFront t h k) is took))
+
+-- what a call says that is begun, goes on and is answered
+record Spoken (o p : Bool) (a b : ℕ) (x : Asked) (r : Answer) (events : List Event) : Type 0 where
+  pub marks : List Mark
+  pub stretch : Stretch a b marks events
+  pub order : ordered o marks ≡ Some p
+  pub calls : calls_in marks ≡ begins x ∷ answers x r ∷ []
+
+some_is : {X : Type 0} {x y : X} → x ≡ y → Some x ≡ Some y
+some_is is = ap Some is
+
+spoken : (p : Bool) (a b : ℕ) (x : Asked) (r : Answer) (marks : List Mark) (events : List Event) → ordered false marks ≡ Some p → calls_in marks ≡ [] → Stretch a b marks events
+    → Spoken false p a b x r ((event.Marked (begins x) ∷ []) ++ (events ++ event.Marked (answers x r) ∷ []))
+spoken p a b x r marks events order none s = record {
+  marks = (begins x ∷ []) ++ (marks ++ answers x r ∷ []);
+  stretch = stretch_then a a b (begins x ∷ []) (marks ++ answers x r ∷ []) (event.Marked (begins x) ∷ []) (events ++ event.Marked (answers x r) ∷ []) (marked (begins x) a (begins x ∷ []) refl)
+      (stretch_then a b b marks (answers x r ∷ []) events (event.Marked (answers x r) ∷ []) s (marked (answers x r) b (answers x r ∷ []) refl));
+  order = ordered_then false p marks (answers x r ∷ []) order;
+  calls = ap (λ (l : List Mark). begins x ∷ l) (calls_in-append marks (answers x r ∷ []) ∙ ap (λ (l : List Mark). l ++ answers x r ∷ []) none);
+}
+
+-- the other ends are not want of memory
+abbrev is_memory : End → Bool
+is_memory end.Memory = true
+is_memory e = false
+
+not_memory : (e : End) → is_memory e ≡ false → e ≡ end.Memory → ⊥
+not_memory e other is = no (sym other ∙ ap is_memory is)
+  where
+    no : false ≡ true → ⊥
+    no same = search rules
+
+-- marks alone behind what broke off
+broken_behind : (a b : ℕ) (ms ns : List Mark) (e : End) (xs ys : List Event) → Broken a b ms e xs → list_all is_mark ys ≡ true → said ys ≡ ns → Broken a b (ms ++ ns) e (xs ++ ys)
+broken_behind a b ms ns e xs ys broken marks says = record {
+  upto = broken.upto;
+  behind = broken.behind ++ ys;
+  are = ap (λ (l : List Event). l ++ ys) broken.are ∙ append_assoc broken.upto broken.behind ys;
+  marked = list_all-append is_mark broken.behind ys ∙ rw (broken.marked, marks) refl;
+  cause = broken.cause;
+  says = said-append xs ys ∙ ap (λ (l : List Mark). l ++ said ys) broken.says ∙ ap (λ (l : List Mark). ms ++ l) says;
+}
+
+-- a call is begun and stops
+broken_call : (x : Asked) (why : Stop) (a b : ℕ) (marks : List Mark) (events : List Event) → Stopped a b marks why events
+    → Broken a b (begins x ∷ marks) (end_of why b) ((event.Marked (begins x) ∷ []) ++ events)
+broken_call x why a b marks events s =
+    broken_then a a b (begins x ∷ []) marks (end_of why b) (event.Marked (begins x) ∷ []) events (marked (begins x) a (begins x ∷ []) refl)
+    (broken_at a b marks (end_of why b) events (cause_of_stop a b why events s.stops) s.says)
+
+begun_calls : (x : Asked) (marks : List Mark) → calls_in marks ≡ [] → calls_in (begins x ∷ marks) ≡ begins x ∷ []
+begun_calls x marks none = ap (λ (l : List Mark). begins x ∷ l) none
+
+-- it ends for want of memory, with the call unanswered
+line_breaks : (x : Asked) (a b : ℕ) (marks : List Mark) (old new : Seen) (h k : Held) (events : List Event) → Came events old new → said events ≡ begins x ∷ marks → calls_in marks ≡ []
+    → IsOrdered false marks → TookAll [] h k → (p : Bool) → Does (AnswersOneSo false p a b x (Err end.Memory) h k) old new
+line_breaks x a b marks old new h k events came says none order took p =
+    (events, came, (begins x ∷ marks, broken_at a b (begins x ∷ marks) end.Memory events tt says, order, (true, (begun_calls x marks none, took))))
+
+line_untold : (x : Asked) (r : Answer) (p : Bool) (a b : ℕ) (old now then new : Seen) (h k : Held) → Does (BeginsSo {E = NoMemory} x (Ok tt)) old now
+    → Does (ConversesSo (Talks (IsStat x.path) x.number) false p a b (Ok r)) now then → Does (λ (events : List Event). (events ≡ []) × TookAll [] h k) then new
+    → Does (AnswersOneSo false p a b x (Err end.Memory) h k) old new
+line_untold x r p a b old now then new h k begun went printed =
+    let t : Stretch a b went.2.0 went.0 = went.2.2 in
+    line_breaks x a b went.2.0 old new h k (begun.0 ++ (went.0 ++ printed.0)) (came_then begun.0 (went.0 ++ printed.0) old now new begun.1 (came_then went.0 printed.0 now then new went.1 printed.1))
+    (ap (λ (l : List Event). said (l ++ (went.0 ++ printed.0))) begun.2 ∙ ap (λ (l : List Event). begins x ∷ said (went.0 ++ l)) printed.2.0 ∙ ap (λ (l : List Event). begins x ∷ said l) (append-nil went.0) ∙ ap (λ (l : List Mark). begins x ∷ l) t.says)
+    went.2.1.none (p, went.2.1.order) printed.2.1 p
+
+-- a call is begun, goes on to its answer, and is answered and printed
+pub line_answered : (x : Asked) (r : Answer) (result : Result (Unit {0}) End) (p : Bool) (a b : ℕ) (old now then new : Seen) (h k : Held)
+    → Does (BeginsSo {E = NoMemory} x (Ok tt)) old now → Does (ConversesSo (Talks (IsStat x.path) x.number) false p a b (Ok r)) now then → Does (PrintsSo x.number r result h k) then new
+    → Does (AnswersOneSo false p a b x result h k) old new
+line_answered x r (Ok u) p a b old now then new h k begun went printed =
+    let s : Spoken false p a b x r ((event.Marked (begins x) ∷ []) ++ (went.0 ++ event.Marked (answers x r) ∷ [])) = spoken p a b x r went.2.0 went.0 went.2.1.order went.2.1.none went.2.2 in
+    let events : begun.0 ++ (went.0 ++ printed.0) ≡ (event.Marked (begins x) ∷ []) ++ (went.0 ++ event.Marked (answers x r) ∷ []) =
+    ap (λ (l : List Event). l ++ (went.0 ++ printed.0)) begun.2 ∙ ap (λ (l : List Event). (event.Marked (begins x) ∷ []) ++ (went.0 ++ l)) printed.2.0 in (
+      begun.0 ++ (went.0 ++ printed.0),
+      came_then begun.0 (went.0 ++ printed.0) old now new begun.1 (came_then went.0 printed.0 now then new went.1 printed.1),
+      record {
+        a = r;
+        marks = s.marks;
+        stretch = subst (Stretch a b s.marks) (sym events) s.stretch;
+        order = s.order;
+        calls = s.calls;
+        printed = printed.2.1;
+        answered = record { went = went.0; are = events; talks = went.2.3 };
+      },
+    )
+line_answered x r (Err end.Sink) p a b old now then new h k begun went printed =
+    let s : Spoken false p a b x r ((event.Marked (begins x) ∷ []) ++ (went.0 ++ event.Marked (answers x r) ∷ [])) = spoken p a b x r went.2.0 went.0 went.2.1.order went.2.1.none went.2.2 in
+    let events : begun.0 ++ (went.0 ++ printed.0) ≡ (event.Marked (begins x) ∷ []) ++ (went.0 ++ event.Marked (answers x r) ∷ []) =
+    ap (λ (l : List Event). l ++ (went.0 ++ printed.0)) begun.2 ∙ ap (λ (l : List Event). (event.Marked (begins x) ∷ []) ++ (went.0 ++ l)) printed.2.0 in
+    let t : Stretch a b s.marks ((event.Marked (begins x) ∷ []) ++ (went.0 ++ event.Marked (answers x r) ∷ [])) = s.stretch in (
+      begun.0 ++ (went.0 ++ printed.0),
+      came_then begun.0 (went.0 ++ printed.0) old now new begun.1 (came_then went.0 printed.0 now then new went.1 printed.1),
+      (
+        s.marks,
+        broken_at a b s.marks end.Sink (begun.0 ++ (went.0 ++ printed.0)) tt (ap said events ∙ t.says),
+        (p, s.order),
+        (true, (r, s.calls, printed.2.1)),
+      ),
+    )
+line_answered x r (Err end.Memory) p a b old now then new h k begun went printed = line_untold x r p a b old now then new h k begun went (printed.0, printed.1, (printed.2.1, printed.2.2))
+line_answered x r (Err end.Done) p a b old now then new h k begun went printed = absurd (not_memory end.Done refl printed.2.0)
+line_answered x r (Err (end.Line number)) p a b old now then new h k begun went printed = absurd (not_memory (end.Line number) refl printed.2.0)
+line_answered x r (Err (end.Mount why)) p a b old now then new h k begun went printed = absurd (not_memory (end.Mount why) refl printed.2.0)
+line_answered x r (Err (end.Frame number fault)) p a b old now then new h k begun went printed = absurd (not_memory (end.Frame number fault) refl printed.2.0)
+line_answered x r (Err (end.Connects number)) p a b old now then new h k begun went printed = absurd (not_memory (end.Connects number) refl printed.2.0)
+line_answered x r (Err end.Cuts) p a b old now then new h k begun went printed = absurd (not_memory end.Cuts refl printed.2.0)
+line_answered x r (Err end.Source) p a b old now then new h k begun went printed = absurd (not_memory end.Source refl printed.2.0)
+line_answered x r (Err end.Frames) p a b old now then new h k begun went printed = absurd (not_memory end.Frames refl printed.2.0)
+
+-- a line's call is not begun
+pub call_unbegun : (x : Asked) (p : Bool) (n m : ℕ) (old now : Seen) (h : Held) (o : Bool) → Does (λ (events : List Event). events ≡ []) old now → Does (AnswersOneSo o p n m x (Err end.Memory) h h) old now
+call_unbegun x p n m old now h o begun =
+    (begun.0, begun.1, ([], broken_at n m [] end.Memory begun.0 tt (ap said begun.2), (o, refl), (false, (refl, took_none h))))
+
+-- the events of a call that stops
+stopped_events : (x : Asked) (begun went printed : List Event) → begun ≡ event.Marked (begins x) ∷ [] → begun ++ (went ++ printed) ≡ ((event.Marked (begins x) ∷ []) ++ went) ++ printed
+stopped_events x begun went printed is = ap (λ (l : List Event). l ++ (went ++ printed)) is
+
+-- it is answered with the error number of the cause
+line_given : (x : Asked) (errno : ℕ) (why : Stop) (p : Bool) (a b : ℕ) (marks : List Mark) (old new : Seen) (h k : Held) (begun went printed : List Event) → Came (begun ++ (went ++ printed)) old new
+    → begun ≡ event.Marked (begins x) ∷ [] → calls_in marks ≡ [] → IsOrdered false marks → Stopped a b marks why went
+    → printed ≡ event.Marked (mark.Answer x.number (unanswered errno)) ∷ []
+    → Broken a b (begins x ∷ (marks ++ answers x (unanswered errno) ∷ [])) (end_of why b) (begun ++ (went ++ printed))
+line_given x errno why p a b marks old new h k begun went printed came is none order s told =
+    subst (Broken a b (begins x ∷ (marks ++ answers x (unanswered errno) ∷ [])) (end_of why b)) (sym (stopped_events x begun went printed is))
+    (broken_behind a b (begins x ∷ marks) (answers x (unanswered errno) ∷ []) (end_of why b) ((event.Marked (begins x) ∷ []) ++ went) printed (broken_call x why a b marks went s)
+    (ap (list_all is_mark) told) (ap said told))
+
+given_calls : (x : Asked) (r : Answer) (marks : List Mark) → calls_in marks ≡ [] → calls_in (begins x ∷ (marks ++ answers x r ∷ [])) ≡ begins x ∷ answers x r ∷ []
+given_calls x r marks none = ap (λ (l : List Mark). begins x ∷ l) (calls_in-append marks (answers x r ∷ []) ∙ ap (λ (l : List Mark). l ++ answers x r ∷ []) none)
+
+given_order : (x : Asked) (r : Answer) (marks : List Mark) → IsOrdered false marks → IsOrdered false (begins x ∷ (marks ++ answers x r ∷ []))
+given_order x r marks order = (order.0, ordered_then false order.0 marks (answers x r ∷ []) order.1)
+
+-- or its line is refused, or memory runs out meanwhile
+line_refused : (x : Asked) (r : Answer) (a b : ℕ) (marks : List Mark) (old new : Seen) (h k : Held) (begun went printed : List Event) → Came (begun ++ (went ++ printed)) old new
+    → begun ≡ event.Marked (begins x) ∷ [] → calls_in marks ≡ [] → IsOrdered false marks → said went ≡ marks → (e : End) → PrintsSo x.number r (Err e) h k printed
+    → (p : Bool) → Does (AnswersOneSo false p a b x (Err e) h k) old new
+line_refused x r a b marks old new h k begun went printed came is none order says end.Sink prints p = (
+  begun ++ (went ++ printed),
+  came,
+  (
+    begins x ∷ (marks ++ answers x r ∷ []),
+    broken_at a b (begins x ∷ (marks ++ answers x r ∷ [])) end.Sink (begun ++ (went ++ printed)) tt
+        (ap said (stopped_events x begun went printed is) ∙ ap (λ (l : List Mark). begins x ∷ l) (said-append went printed ∙ ap (λ (l : List Mark). l ++ said printed) says ∙ ap (λ (l : List Event). marks ++ said l) prints.0)),
+    given_order x r marks order,
+    (true, (r, given_calls x r marks none, prints.1)),
+  ),
+)
+line_refused x r a b marks old new h k begun went printed came is none order says end.Memory prints p =
+    line_breaks x a b marks old new h k (begun ++ (went ++ printed)) came
+    (ap said (stopped_events x begun went printed is) ∙ ap (λ (l : List Mark). begins x ∷ l) (said-append went printed ∙ ap (λ (l : List Mark). l ++ said printed) says ∙ ap (λ (l : List Event). marks ++ said l) prints.1 ∙ append-nil marks))
+    none order prints.2 p
+line_refused x r a b marks old new h k begun went printed came is none order says end.Done prints p = absurd (not_memory end.Done refl prints.0)
+line_refused x r a b marks old new h k begun went printed came is none order says (end.Line number) prints p = absurd (not_memory (end.Line number) refl prints.0)
+line_refused x r a b marks old new h k begun went printed came is none order says (end.Mount why) prints p = absurd (not_memory (end.Mount why) refl prints.0)
+line_refused x r a b marks old new h k begun went printed came is none order says (end.Frame number fault) prints p = absurd (not_memory (end.Frame number fault) refl prints.0)
+line_refused x r a b marks old new h k begun went printed came is none order says (end.Connects number) prints p = absurd (not_memory (end.Connects number) refl prints.0)
+line_refused x r a b marks old new h k begun went printed came is none order says end.Cuts prints p = absurd (not_memory end.Cuts refl prints.0)
+line_refused x r a b marks old new h k begun went printed came is none order says end.Source prints p = absurd (not_memory end.Source refl prints.0)
+line_refused x r a b marks old new h k begun went printed came is none order says end.Frames prints p = absurd (not_memory end.Frames refl prints.0)
+
+-- the cause has no error number
+unnumbered : (x : Asked) (why : Stop) (p : Bool) (a b : ℕ) (marks : List Mark) (old new : Seen) (h k : Held) (begun went printed : List Event) → Came (begun ++ (went ++ printed)) old new
+    → begun ≡ event.Marked (begins x) ∷ [] → Stopped a b marks why went → printed ≡ [] → Broken a b (begins x ∷ marks) (end_of why b) (begun ++ (went ++ printed))
+unnumbered x why p a b marks old new h k begun went printed came is s none =
+    subst (Broken a b (begins x ∷ marks) (end_of why b))
+    (sym (ap (λ (l : List Event). l ++ (went ++ printed)) is ∙ ap (λ (l : List Event). (event.Marked (begins x) ∷ []) ++ (went ++ l)) none ∙ ap (λ (l : List Event). (event.Marked (begins x) ∷ []) ++ l) (append-nil went)))
+    (broken_call x why a b marks went s)
+
+-- a call is begun and stops, and the run gives it up
+give_up_by : (x : Asked) (why : Stop) (e' : End) (p q : Bool) (a b : ℕ) (old now then new : Seen) (h k : Held) → (begun : Does (BeginsSo {E = NoMemory} x (Ok tt)) old now)
+    → (went : Does (ConversesSo (Talks (IsStat x.path) x.number) false q a b (Err why)) now then) → (gave : Does (GivesUpSo x.number (end_of why b) e' h k) then new) → Does (AnswersOneSo false p a b x (Err e') h k) old new
+give_up_by x stop.NoMemory e' p q a b old now then new h k begun went gave =
+    let s : Stopped a b went.2.0 stop.NoMemory went.0 = went.2.2 in
+    subst (λ (e : End). Does (AnswersOneSo false p a b x (Err e) h k) old new) (sym gave.2.0)
+    (line_breaks x a b went.2.0 old new h k (begun.0 ++ (went.0 ++ gave.0)) (came_then begun.0 (went.0 ++ gave.0) old now new begun.1 (came_then went.0 gave.0 now then new went.1 gave.1))
+    (ap said (stopped_events x begun.0 went.0 gave.0 begun.2) ∙ ap (λ (l : List Event). begins x ∷ said (went.0 ++ l)) gave.2.1 ∙ ap (λ (l : List Event). begins x ∷ said l) (append-nil went.0) ∙ ap (λ (l : List Mark). begins x ∷ l) s.says)
+    went.2.1.none went.2.1.order gave.2.2 p)
+give_up_by x stop.Frames e' p q a b old now then new h k begun went gave =
+    let came = came_then begun.0 (went.0 ++ gave.0) old now new begun.1 (came_then went.0 gave.0 now then new went.1 gave.1) in
+    subst (λ (e : End). Does (AnswersOneSo false p a b x (Err e) h k) old new) (sym gave.2.0) (
+      begun.0 ++ (went.0 ++ gave.0),
+      came,
+      (
+        begins x ∷ went.2.0,
+        unnumbered x stop.Frames p a b went.2.0 old new h k begun.0 went.0 gave.0 came begun.2 went.2.2 gave.2.1,
+        went.2.1.order,
+        (true, (begun_calls x went.2.0 went.2.1.none, gave.2.2)),
+      ),
+    )
+give_up_by x stop.Lost e' p q a b old now then new h k begun went gave =
+    let came = came_then begun.0 (went.0 ++ gave.0) old now new begun.1 (came_then went.0 gave.0 now then new went.1 gave.1) in
+    let s : Stopped a b went.2.0 stop.Lost went.0 = went.2.2 in
+    lost e' went.2.0 begun.0 went.0 gave.0 came begun.2 went.2.1.none went.2.1.order s gave.2
+  where
+    lost : (e' : End) (marks : List Mark) (begun went printed : List Event)
+        → Came (begun ++ (went ++ printed)) old new → begun ≡ event.Marked (begins x) ∷ [] → calls_in marks ≡ [] → IsOrdered false marks → Stopped a b marks stop.Lost went
+        → GivesUpBy (Some 112) x.number end.Cuts e' h k printed → Does (AnswersOneSo false p a b x (Err e') h k) old new
+    lost e' marks begun went printed came is none order s (inl gave) =
+        subst (λ (e : End). Does (AnswersOneSo false p a b x (Err e) h k) old new) (sym gave.0) (
+          begun ++ (went ++ printed),
+          came,
+          (
+            begins x ∷ (marks ++ answers x (unanswered 112) ∷ []),
+            line_given x 112 stop.Lost p a b marks old new h k begun went printed came is none order s gave.1.0,
+            given_order x (unanswered 112) marks order,
+            (true, (given_calls x (unanswered 112) marks none, gave.1.1)),
+          ),
+        )
+    lost e' marks begun went printed came is none order s (inr gave) = line_refused x (unanswered 112) a b marks old new h k begun went printed came is none order s.says e' gave p
+give_up_by x stop.Silent e' p q a b old now then new h k begun went gave =
+    let came = came_then begun.0 (went.0 ++ gave.0) old now new begun.1 (came_then went.0 gave.0 now then new went.1 gave.1) in
+    let s : Stopped a b went.2.0 stop.Silent went.0 = went.2.2 in
+    silent e' went.2.0 begun.0 went.0 gave.0 came begun.2 went.2.1.none went.2.1.order s gave.2
+  where
+    silent : (e' : End) (marks : List Mark) (begun went printed : List Event)
+        → Came (begun ++ (went ++ printed)) old new → begun ≡ event.Marked (begins x) ∷ [] → calls_in marks ≡ [] → IsOrdered false marks → Stopped a b marks stop.Silent went
+        → GivesUpBy (Some 112) x.number end.Cuts e' h k printed → Does (AnswersOneSo false p a b x (Err e') h k) old new
+    silent e' marks begun went printed came is none order s (inl gave) =
+        subst (λ (e : End). Does (AnswersOneSo false p a b x (Err e) h k) old new) (sym gave.0) (
+          begun ++ (went ++ printed),
+          came,
+          (
+            begins x ∷ (marks ++ answers x (unanswered 112) ∷ []),
+            line_given x 112 stop.Silent p a b marks old new h k begun went printed came is none order s gave.1.0,
+            given_order x (unanswered 112) marks order,
+            (true, (given_calls x (unanswered 112) marks none, gave.1.1)),
+          ),
+        )
+    silent e' marks begun went printed came is none order s (inr gave) = line_refused x (unanswered 112) a b marks old new h k begun went printed came is none order s.says e' gave p
+give_up_by x (stop.Fault fault) e' p q a b old now then new h k begun went gave =
+    let came = came_then begun.0 (went.0 ++ gave.0) old now new begun.1 (came_then went.0 gave.0 now then new went.1 gave.1) in
+    let s : Stopped a b went.2.0 (stop.Fault fault) went.0 = went.2.2 in
+    faulty e' went.2.0 begun.0 went.0 gave.0 came begun.2 went.2.1.none went.2.1.order s gave.2
+  where
+    faulty : (e' : End) (marks : List Mark) (begun went printed : List Event)
+        → Came (begun ++ (went ++ printed)) old new → begun ≡ event.Marked (begins x) ∷ [] → calls_in marks ≡ [] → IsOrdered false marks → Stopped a b marks (stop.Fault fault) went
+        → GivesUpBy (Some 71) x.number (end.Frame b fault) e' h k printed → Does (AnswersOneSo false p a b x (Err e') h k) old new
+    faulty e' marks begun went printed came is none order s (inl gave) =
+        subst (λ (e : End). Does (AnswersOneSo false p a b x (Err e) h k) old new) (sym gave.0) (
+          begun ++ (went ++ printed),
+          came,
+          (
+            begins x ∷ (marks ++ answers x (unanswered 71) ∷ []),
+            line_given x 71 (stop.Fault fault) p a b marks old new h k begun went printed came is none order s gave.1.0,
+            given_order x (unanswered 71) marks order,
+            (true, (given_calls x (unanswered 71) marks none, gave.1.1)),
+          ),
+        )
+    faulty e' marks begun went printed came is none order s (inr gave) = line_refused x (unanswered 71) a b marks old new h k begun went printed came is none order s.says e' gave p
+
+pub call_given_up : (x : Asked) (why : Stop) (e' : End) (p q : Bool) (a b : ℕ) (old now then new : Seen) (h k : Held) → Does (BeginsSo {E = NoMemory} x (Ok tt)) old now
+    → Does (ConversesSo (Talks (IsStat x.path) x.number) false q a b (Err why)) now then → Does (GivesUpSo x.number (end_of why b) e' h k) then new → Does (AnswersOneSo false p a b x (Err e') h k) old new
+call_given_up x why e' p q a b old now then new h k begun went gave = give_up_by x why e' p q a b old now then new h k begun went gave
