@@ -1,6 +1,7 @@
 -- What each reply of a mount decides, the first reason first (MS-SMB2 3.2.5.2, 3.2.5.3 and 3.2.5.5): from what was kept and the bytes
 -- of the reply to what the next state keeps, or the fault.
 use Rattle.std.specs.Prelude.{◌==◌, ℕ, List, if◌then◌else◌, MatchBool, Result, Ok, Err, bit_and}
+use Rattle.smb_base.specs.declared.names.Status.{Status}
 use Rattle.smb_head.specs.declared.head.Head.{Head}
 use Rattle.smb_head.specs.declared.head.HeadFault.{HeadFault}
 use Rattle.smb_head.specs.declared.head.Route.{Route}
@@ -65,13 +66,19 @@ abbrev pub answered : kept.Challenge → SessionSetupReply → Result kept.Sessi
 answered k x =
     if is_guest x.session_flags then Ok (record { path = k.path; server = k.server; session = k.session }) else Err NotGuest
 
--- the second SESSION_SETUP: every other status than success is a refusal
+-- a further challenge is a refusal
+abbrev pub challenged_again : Status → SessionSetupReply → Result kept.Session MountFault
+challenged_again status x = Err (Session status)
+
+-- the second SESSION_SETUP: every other status than success is a refusal, and MORE_PROCESSING_REQUIRED has the body of a session reply
 abbrev pub SessionEnds : kept.Challenge → Result Head HeadFault → List ℕ → Result kept.Session MountFault → Type 0
 SessionEnds k (Err fault) part result = ⊥
 SessionEnds k (Ok head) part result =
     MatchBool (head.status.0 == 0)
     (Decides (ReadsSession part) (by_body (answered k)) result)
-    (Fails (Refuses part (Session head.status)) result)
+    (MatchBool (head.status.0 == 0xC0000016)
+    (Decides (ReadsSession part) (by_body (challenged_again head.status)) result)
+    (Fails (Refuses part (Session head.status)) result))
 
 -- TREE_CONNECT: a disk, whose tree has the id of this reply's header
 abbrev pub joined : kept.Session → Route → TreeConnectReply → Result Facts MountFault

@@ -5,7 +5,7 @@ ghost use Rattle.std.specs.List.{AllByRecursion};
 ghost use Rattle.smb_head.specs.Header.{head_of};
 ghost use Rattle.smb_mount.specs.Tokens.{negotiate_token, authenticate_token};
 ghost use Rattle.smb_mount.specs.Requests.{negotiate, session_setup, tree_connect, tree_disconnect, logoff, unit_bytes, IsWritten, negotiate_fields, dialects, session_fields, tree_fields, no_fields};
-ghost use Rattle.smb_mount.specs.Verdicts.{by_body, greeted, challenged, at_once, answered, joined, NegotiateEnds, SetUpEnds, SessionEnds, TreeEnds};
+ghost use Rattle.smb_mount.specs.Verdicts.{by_body, greeted, challenged, at_once, answered, challenged_again, joined, NegotiateEnds, SetUpEnds, SessionEnds, TreeEnds};
 
 use crate::facts::{Facts, Server};
 use crate::fault::MountFault;
@@ -271,10 +271,13 @@ impl Challenged {
         ensures { SessionEnds self (head_of part.now) part.now result }
     {
         let status = head_in(part).status;
-        if status != Status::SUCCESS {
-            return Err(refusal(part, MountFault::Session(status)));
+        if status == Status::SUCCESS {
+            return self.by_body(read_session_setup_reply(part));
         }
-        self.by_body(read_session_setup_reply(part))
+        if status == Status::MORE_PROCESSING_REQUIRED {
+            return challenged_again(status, read_session_setup_reply(part));
+        }
+        Err(refusal(part, MountFault::Session(status)))
     }
 
     // What the body decides.
@@ -296,6 +299,19 @@ impl Challenged {
             server: self.server,
             session: self.session,
         })
+    }
+}
+
+// What the body of a further challenge decides: it is a refusal.
+fn challenged_again(
+    status: Status,
+    body: Result<SessionSetupReply<'_>, BodyFault>,
+) -> Result<Authenticated, MountFault>
+    ensures { result ≡ by_body (challenged_again status) body.entry }
+{
+    match body {
+        Ok(_) => Err(MountFault::Session(status)),
+        Err(fault) => Err(MountFault::Malformed(fault)),
     }
 }
 

@@ -234,6 +234,10 @@ fn a_share_is_mounted_or_refused_for_the_first_reason(rt: HostRuntime) -> Result
             Err(MountFault::Session(Status(MORE))),
         ),
         (
+            [GREETED, CHALLENGED, CHALLENGED, DISK],
+            Err(MountFault::Session(Status(MORE))),
+        ),
+        (
             [GREETED, CHALLENGED, (0, FIRST, at, Body::Session(0)), DISK],
             Err(MountFault::NotGuest),
         ),
@@ -261,6 +265,10 @@ fn a_share_is_mounted_or_refused_for_the_first_reason(rt: HostRuntime) -> Result
         ),
         (
             [GREETED, CHALLENGED, (0, FIRST, at, Body::Other), DISK],
+            Err(MountFault::Malformed(BodyFault::Size)),
+        ),
+        (
+            [GREETED, CHALLENGED, (MORE, FIRST, at, Body::Other), DISK],
             Err(MountFault::Malformed(BodyFault::Size)),
         ),
         (
