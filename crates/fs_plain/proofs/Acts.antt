@@ -14,12 +14,14 @@ use Rattle.share_spec.specs.PlainShare.{plain_step}
 use Rattle.fs_plain.specs.World.{act_of, grant_in}
 use Rattle.fs_plain.specs.Honest.{MayAct}
 use Rattle.fs_plain.specs.Same.{same_reply}
-use Rattle.fs_plain.specs.Replay.{Run, Replay, Owner, owner_of, new_pair, opened_number}
+use Rattle.fs_plain.specs.Replay.{Run, Running, Replay, Owner, owner_of, new_pair, opened_number}
 use Rattle.fs_plain.specs.Differences.{carried, plain_act, judge_act, after_act, is_passed_over}
 use Rattle.fs_plain.specs.View.{View, Sound, calm, waits, left, ran, IsOwned}
+use Rattle.fs_plain.specs.Tidy.{IsToBeClosed, AreTidy}
 use Rattle.fs_plain.specs.Related.{Related, bare, AreStanding, AreSame}
 use Rattle.fs_plain.proofs.PlainTree.{bare_of}
 use Rattle.fs_plain.proofs.Steps.{Counts, Connection, connection, step_counts, step_leaves, step_numbers}
+use Rattle.fs_plain.proofs.Opens.{step_every}
 use Rattle.fs_plain.proofs.Identity.{one_more_same}
 use Rattle.fs_plain.proofs.Carried.{act_same}
 use Rattle.fs_plain.proofs.SameLaws.{reply_itself}
@@ -69,8 +71,9 @@ pairs_counted pairs s done (inr one) same =
 -- what is related stays so where the real share changes beside its connection, and the plain share with it
 pub moved : (s s' : Share) (r r' : Replay) (v : View) → Related s r v → connection s' ≡ connection s
     → r'.plain ≡ bare s' → s'.leases ≡ [] → AreStanding s' → AreSame r'.pairs s'.opens_made → r'.kept ≡ r.kept
-    → r'.announced ≡ r.announced → r'.begun ≡ r.begun → r'.running ≡ r.running → r'.owners ≡ r.owners → Related s' r' v
-moved s s' r r' v old same tree leases standing pairs kept announced begun running owners =
+    → r'.announced ≡ r.announced → r'.begun ≡ r.begun → r'.running ≡ r.running → r'.owners ≡ r.owners
+    → AllByRecursion (IsToBeClosed r.running) s'.opens → Related s' r' v
+moved s s' r r' v old same tree leases standing pairs kept announced begun running owners closing =
     let owing : s.owed ≡ s'.owed = sym (ap (λ (c : Connection). c.owed) same) in
     record {
       tree = tree;
@@ -92,6 +95,7 @@ moved s s' r r' v old same tree leases standing pairs kept announced begun runni
       belongs = old.belongs;
       calls = old.calls;
       named = old.named;
+      tidy = subst (λ (l : List Running). AreTidy l s'.opens) (sym running) (record { closing = closing; calls = old.tidy.calls });
       fresh = λ m low. record { owner = subst (λ (o : List Owner). owner_of (record { 0 = m }) o ≡ None) (sym owners) (old.fresh m low).owner; flight = (old.fresh m low).flight; flying = (old.fresh m low).flying };
     }
 
@@ -129,5 +133,7 @@ act_related run s r v who request reply old may =
           (subst (λ (x : Rep). AreSame (new_pair x reply ++ r.pairs) done.1.opens_made) (may.answered ∙ sym replied)
           (subst (λ (x : Rep). AreSame (new_pair done.0 x ++ r.pairs) done.1.opens_made) may.answered
           (pairs_counted r.pairs s done (step_counts (grant_in reply.body) s W request) old.pairs)))
-          refl refl refl refl refl),
+          refl refl refl refl refl
+          (step_every (IsToBeClosed r.running) (grant_in reply.body) s W request
+          (λ o own. inl (subst (λ (w : Who). (w.0 == 0) ≡ false) (sym own) may.another)) old.tidy.closing)),
     )

@@ -15,6 +15,7 @@ use Rattle.fs_plain.specs.Differences.{is_right_begin, after_begin, is_right_for
 use Rattle.fs_plain.specs.View.{Item, Flight, View, same_flying, item_with, ran, IsNext, IsItems, Belongs, BelongsTo, new_item, with_item, announce, with_announced}
 use Rattle.fs_plain.specs.Related.{Related, IsOther, AreDistinct, IsNamed}
 use Rattle.fs_plain.proofs.Every.{every-snoc, every-more}
+use Rattle.fs_plain.proofs.Tidying.{program_tidies, begun_tidy, announced_tidy}
 
 map_snoc : (coming : List Owed) (items : List Item) (i : Item) → map (ran coming) (items ++ i ∷ []) ≡ map (ran coming) items ++ ran coming i ∷ []
 map_snoc coming [] i = refl
@@ -89,6 +90,7 @@ begin_related run s r v number lane call old above free apart =
         belongs = every-more (Belongs v.items) (Belongs (v.items ++ item ∷ [])) (λ f b. belongs_still v.items item f.owner f b) v.flights old.belongs;
         calls = distinct_still v.items item refl old.calls apart;
         named = every-snoc IsNamed v.items item old.named refl;
+        tidy = begun_tidy r.running s.opens (ran coming item) (program_tidies run.options run.seed call) old.tidy;
         fresh = λ m low. record {
           owner = (old.fresh m low).owner;
           flight = (old.fresh m low).flight;
@@ -202,6 +204,7 @@ for_related s r v a old known =
             (λ f b. belongs_changed (announce a.number) (announce_leaves a.number) v.items f.owner f b) v.flights old.belongs;
         calls = distinct_changed (announce a.number) (announce_leaves a.number) v.items old.calls;
         named = named_announced a.number v.items old.named;
+        tidy = announced_tidy a.number r.running s.opens old.tidy;
         fresh = λ m low. record {
           owner = (old.fresh m low).owner;
           flight = (old.fresh m low).flight;

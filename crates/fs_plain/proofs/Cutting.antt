@@ -14,8 +14,9 @@ use Rattle.fs_plain.specs.World.{us}
 use Rattle.fs_plain.specs.Replay.{Run, Running, Replay, plain_of}
 use Rattle.fs_plain.specs.Differences.{next, with_number, closed_if, all_ended, ended_between}
 use Rattle.fs_plain.specs.View.{Item, View, same_flying, ran, reply_of_flying, rest_after, opened_after}
+use Rattle.fs_plain.specs.Tidy.{IsToBeClosed}
 use Rattle.fs_plain.specs.Related.{Related, bare, IsStanding, IsAnother, AreApart, AreSame, IsOther, AreDistinct, IsNamed}
-use Rattle.fs_plain.proofs.Every.{every-filter, every-more}
+use Rattle.fs_plain.proofs.Every.{every-filter, every-more, every-both, all_kept}
 use Rattle.fs_plain.proofs.Steps.{apart_filter}
 
 -- a list keeps the same elements where two tests agree on each
@@ -28,15 +29,6 @@ same_filter p q (x ∷ xs) all =
 same_map : {X : Type 0} (f : X → X) (xs : List X) → AllByRecursion (λ x. f x ≡ x) xs → map f xs ≡ xs
 same_map f [] all = refl
 same_map f (x ∷ xs) all = ap (λ (y : _). y ∷ map f xs) all.0 ∙ ap (λ (l : List _). x ∷ l) (same_map f xs all.1)
-
--- what is kept passed the test
-all_kept : {X : Type 0} (p : X → Bool) (xs : List X) → AllByRecursion (λ x. p x ≡ true) (filter p xs)
-all_kept p [] = tt
-all_kept p (x ∷ xs) = by (p x) refl (all_kept p xs)
-  where
-    by : (t : Bool) → p x ≡ t → AllByRecursion (λ y. p y ≡ true) (filter p xs) → AllByRecursion (λ y. p y ≡ true) (if t then x ∷ filter p xs else filter p xs)
-    by true is all = (is, all)
-    by false is all = all
 
 -- some open of a list has this number
 abbrev pub has_number : ℕ → List Open → Bool
@@ -162,10 +154,6 @@ no_leases : (es : List Open) (s : Share) → s.leases ≡ [] → (all_closed es 
 no_leases [] s none = none
 no_leases (e ∷ es) s none = no_leases es (closed e s) (rw none refl)
 
-every-both : {X : Type 0} (P Q : X → Type 0) (xs : List X) → AllByRecursion P xs → AllByRecursion Q xs → AllByRecursion (λ x. P x × Q x) xs
-every-both P Q [] p q = tt
-every-both P Q (x ∷ xs) p q = ((p.0, q.0), every-both P Q xs p.1 q.1)
-
 -- the opens that end, and those that stay
 abbrev pub ends : Share → Open → Bool
 ends s o = ends_with us s.leases o
@@ -283,5 +271,10 @@ cut_related run s r v old = record {
   belongs = tt;
   calls = distinct_parted (old.paid ++ s.owed) v.items old.calls;
   named = all_named (old.paid ++ s.owed) v.items;
+  tidy = record {
+    closing = subst (AllByRecursion (IsToBeClosed r.running)) (sym (opens_after s old.standing.0 old.standing.1))
+        (every-filter (IsToBeClosed r.running) (stays s) s.opens old.tidy.closing);
+    calls = old.tidy.calls;
+  };
   fresh = λ m low. record { owner = refl; flight = refl; flying = none_flying (old.paid ++ s.owed) (record { 0 = m }) v.items };
 }

@@ -2,6 +2,7 @@
 use Rattle.std.proofs.Common.{rules, ◌≡◌, ℕ, true, false, [], ◌∷◌, ◌++◌, refl, ap, sym, subst, ◌∙◌, inl, inr, None, Some, List, Option, Bool, ◌==◌, not, if◌then◌else◌}
 use Rattle.std.specs.Prelude.{map, option_map}
 use Rattle.std.specs.List.{AllByRecursion}
+use Rattle.std.proofs.lemmas.Bool.{false≢true}
 use Rattle.std.proofs.lemmas.Bool.Decides.{eqb_tells}
 use Rattle.smb_base.specs.declared.names.Mid.{Mid}
 use Rattle.fs_types.specs.declared.answer.Answer.{Answer}
@@ -17,11 +18,13 @@ use Rattle.fs_plain.specs.Replay.{Run, Running, Replay, running_with, running_bu
 use Rattle.fs_plain.specs.Answered.{Difference, finished, compared, is_not_compared, judge_answer_of, after_answer_of, judge_answer, after_answer, without_call}
 use Rattle.fs_plain.specs.Differences.{without_flight as without_owners}
 use Rattle.fs_plain.specs.View.{Item, Flight, View, same_flying, item_with, Sound, waits, ran, reply_of_flying, rest_after, IsOwned, IsItems, Belongs, BelongsTo, items_but, without_item, no_view}
+use Rattle.fs_plain.specs.Tidy.{AreTidy}
 use Rattle.fs_plain.specs.Related.{Related, Settles, IsOther, AreDistinct, IsNamed}
 use Rattle.fs_plain.proofs.Every.{every-filter, every-more}
 use Rattle.fs_plain.proofs.SameLaws.{answer_itself}
 use Rattle.fs_plain.proofs.Identity.{none_made}
 use Rattle.fs_plain.proofs.Tooks.{runs, item_holds}
+use Rattle.fs_plain.proofs.Tidying.{IsAtAnswer, answered_tidy}
 
 some_not_none : {X : Type 0} (x : X) (o : Option X) → o ≡ Some x → o ≡ None → ⊥
 some_not_none x o some none = search rules
@@ -83,6 +86,32 @@ left_alone run r c a says = ap (λ (p : Program). if is_not_compared run c a the
     by true = refl
     by false = refl
 
+-- the call with this number has come to its answer
+at_answer : (coming : List Owed) (n : ℕ) (a : Answer) (items : List Item) (i : Item) → item_with n items ≡ Some i → i.rest ≡ Say a → i.flying ≡ None → AreDistinct items
+    → AllByRecursion (IsAtAnswer n a) (map (ran coming) items)
+at_answer coming n a [] i found says none distinct = tt
+at_answer coming n a (j ∷ js) i found says none distinct = elim (eqb_tells j.number n) [
+  | inl told ↦ (λ is. this (ap the (subst (λ (t : Bool). (if t then Some j else item_with n js) ≡ Some i) told.0 found)), others told.1 js distinct.0)
+  | inr told ↦ (
+    λ is. absurd (false≢true (sym told.0 ∙ is)),
+    at_answer coming n a js i (subst (λ (t : Bool). (if t then Some j else item_with n js) ≡ Some i) told.0 found) says none distinct.1,
+  )
+]
+  where
+    the : Option Item → Item
+    the None = i
+    the (Some k) = k
+
+    this : j ≡ i → (ran coming j).rest ≡ Say a
+    this same = ap (λ (k : Item). (ran coming k).rest) same ∙ ap (λ (f : Option Mid). rest_after (reply_of_flying f coming) i.rest) none ∙ says
+
+    another : (k m : ℕ) → m ≡ n → (k == m) ≡ false → (k == n) ≡ true → ⊥
+    another k m same apart is = search rules
+
+    others : j.number ≡ n → (ks : List Item) → AllByRecursion (IsOther j) ks → AllByRecursion (IsAtAnswer n a) (map (ran coming) ks)
+    others same [] all = tt
+    others same (k ∷ ks) all = (λ is. absurd (another k.number j.number same all.0.0 is), others same ks all.1)
+
 -- a call is answered as its program says, once no request of it is in flight
 pub answer_related : (run : Run) (s : Share) (r : Replay) (v : View) (n : ℕ) (i : Item) (a : Answer) → Related s r v
     → item_with n v.items ≡ Some i → i.rest ≡ Say a → i.flying ≡ None
@@ -115,6 +144,9 @@ answer_related run s r v n i a old found says none =
         belongs = every-more (Belongs v.items) (Belongs (items_but n v.items)) (λ f b. belongs_but n v.items i f.owner f found none b) v.flights old.belongs;
         calls = distinct_but n v.items old.calls;
         named = every-filter IsNamed (λ i. not (i.number == n)) v.items old.named;
+        tidy = subst (λ (m : ℕ). AreTidy (running_but m r.running) s.opens) (sym number)
+            (answered_tidy n a r.running s.opens
+            (subst (AllByRecursion (IsAtAnswer n a)) (sym old.running) (at_answer coming n a v.items i found says none old.calls)) old.tidy);
         fresh = λ m low. record {
           owner = (old.fresh m low).owner;
           flight = (old.fresh m low).flight;
@@ -152,6 +184,7 @@ start_related room fold grants story = record {
   belongs = tt;
   calls = record {};
   named = tt;
+  tidy = record { closing = tt; calls = tt };
   fresh = λ m low. record { owner = refl; flight = refl; flying = tt };
 }
 
@@ -186,5 +219,6 @@ join_related s r v old flights hand held announced = record {
   belongs = old.belongs;
   calls = old.calls;
   named = old.named;
+  tidy = old.tidy;
   fresh = λ m low. record { owner = refl; flight = (old.fresh m low).flight; flying = (old.fresh m low).flying };
 }

@@ -1,5 +1,5 @@
 -- What holds of every element of a list.
-use Rattle.std.proofs.Common.{true, false, [], ◌∷◌, ◌++◌, List, Bool, if◌then◌else◌}
+use Rattle.std.proofs.Common.{◌≡◌, true, false, [], ◌∷◌, ◌++◌, refl, List, Bool, if◌then◌else◌}
 use Rattle.std.specs.Prelude.{filter}
 use Rattle.std.specs.List.{AllByRecursion}
 
@@ -18,3 +18,16 @@ every-filter P p (x ∷ xs) all = every-kept P x (filter p xs) (p x) all.0 (ever
 pub every-more : {X : Type 0} (P Q : X → Type 0) → ((x : X) → P x → Q x) → (xs : List X) → AllByRecursion P xs → AllByRecursion Q xs
 every-more P Q more [] all = tt
 every-more P Q more (x ∷ xs) all = (more x all.0, every-more P Q more xs all.1)
+
+pub every-both : {X : Type 0} (P Q : X → Type 0) (xs : List X) → AllByRecursion P xs → AllByRecursion Q xs → AllByRecursion (λ x. P x × Q x) xs
+every-both P Q [] p q = tt
+every-both P Q (x ∷ xs) p q = ((p.0, q.0), every-both P Q xs p.1 q.1)
+
+-- what is kept passed the test
+pub all_kept : {X : Type 0} (p : X → Bool) (xs : List X) → AllByRecursion (λ x. p x ≡ true) (filter p xs)
+all_kept p [] = tt
+all_kept p (x ∷ xs) = by (p x) refl (all_kept p xs)
+  where
+    by : (t : Bool) → p x ≡ t → AllByRecursion (λ y. p y ≡ true) (filter p xs) → AllByRecursion (λ y. p y ≡ true) (if t then x ∷ filter p xs else filter p xs)
+    by true is all = (is, all)
+    by false is all = all

@@ -80,6 +80,7 @@ got_related s r v bytes known old may =
       belongs = old.belongs;
       calls = old.calls;
       named = old.named;
+      tidy = old.tidy;
       fresh = λ m low. record { owner = (old.fresh m low).owner; flight = (old.fresh m low).flight; flying = (old.fresh m low).flying };
     })
 
@@ -106,6 +107,7 @@ interim_related s r v old m q paid message messages is hand =
       belongs = old.belongs;
       calls = old.calls;
       named = old.named;
+      tidy = old.tidy;
       fresh = λ m low. record { owner = (old.fresh m low).owner; flight = (old.fresh m low).flight; flying = (old.fresh m low).flying };
     }
 
@@ -132,6 +134,7 @@ aside_related s r v old m q paid message messages is hand =
       belongs = every-filter (Belongs v.items) (λ f. not (f.mid.0 == m.0)) v.flights old.belongs;
       calls = old.calls;
       named = old.named;
+      tidy = old.tidy;
       fresh = λ n low. record {
         owner = (old.fresh n low).owner;
         flight = but_still_none (record { 0 = n }) m v.flights (old.fresh n low).flight;
@@ -307,6 +310,7 @@ reply_related s r v old m q reply paid message messages is hand =
       belongs = all_belong m reply v.items v.flights old.belongs;
       calls = distinct_landed m reply v.items old.calls;
       named = named_landed m reply v.items (subst (λ (l : List Owed). Sound v.flights (l ++ s.owed)) is old.sound).0.0 old.named;
+      tidy = old.tidy;
       fresh = λ n low. record {
         owner = (old.fresh n low).owner;
         flight = but_still_none (record { 0 = n }) m v.flights (old.fresh n low).flight;

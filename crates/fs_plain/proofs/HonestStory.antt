@@ -1,6 +1,7 @@
 -- A story that an honest share tells, and in which the client answers as one without caches.
 use Rattle.std.proofs.Common.{◌≡◌, ℕ, true, false, [], ◌∷◌, ◌++◌, refl, None, Some, List}
 use Rattle.std.specs.Prelude.{codes, take, drop}
+use Rattle.std.proofs.lemmas.Bool.{false≢true}
 use Rattle.smb_base.specs.declared.names.Mid.{Mid}
 use Rattle.fs_types.specs.declared.names.Kind.TheVariants as kind
 use Rattle.fs_types.specs.declared.answer.Answer.TheVariants as answer
@@ -123,7 +124,12 @@ a_short_frame = refl
 -- it leaves the share as the plain client does, and nobody waits for it
 it_ends_clean : EndsClean run 1000 false story
 unfolding components asked reply_in is_interim_of head_of head_at number_at first_of frames_in rest_in step_of parts_of read_of contexts_of set_of path.components path.after_part fault_of spelling
-it_ends_clean = record { nodes = λ ended. refl; entries = λ ended. refl; opens = λ ended. refl }
+it_ends_clean = λ left. record { nodes = refl; entries = refl; opens = refl }
+
+-- as long as its CLOSE is not taken it does not
+it_is_not_clean_before : EndsClean run 1000 false (take 13 story) → ⊥
+unfolding components asked reply_in is_interim_of head_of head_at number_at first_of frames_in rest_in step_of parts_of read_of contexts_of set_of path.components path.after_part fault_of spelling
+it_is_not_clean_before clean = false≢true (clean refl).opens
 
 -- its first request is one frame, since one id may be used there
 it_is_thrifty : IsThrifty run 1000 false (take 6 story)

@@ -138,6 +138,7 @@ leads_now options seed v time old new gains = leads_event options seed v v (even
       belongs = old.belongs;
       calls = old.calls;
       named = old.named;
+      tidy = old.tidy;
       fresh = old.fresh;
     }
 

@@ -4,6 +4,7 @@ mod BrokenStories
 pub mod PlainTree
 pub mod Steps
 pub mod Every
+pub mod Opens
 pub mod Identity
 pub mod Carried
 pub mod SameLaws
@@ -16,6 +17,8 @@ pub mod Sending
 pub mod Getting
 pub mod Ending
 pub mod Cutting
+pub mod Tidying
+pub mod Clearing
 pub mod Moves
 pub mod Leading
 pub mod Leaving

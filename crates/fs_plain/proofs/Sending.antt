@@ -383,6 +383,7 @@ send_related s r v f frame old may =
             (new_belongs f v.items f.owner refl (flies_by f v.items f.owner old.named may.asks));
         calls = distinct_flown f v.items old.calls fresh.flying;
         named = named_flown f v.items old.named;
+        tidy = old.tidy;
         fresh = λ m low.
             let before : IsFresh m r.owners v = old.fresh m (below v.next f.mid.0 m may.next low) in record {
               owner = subst (λ (l : List Owner). owner_of (record { 0 = m }) l ≡ None) (sym owners)

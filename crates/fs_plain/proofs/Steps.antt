@@ -267,7 +267,7 @@ step_numbers choice s who (req.Ack a b) = (λ all. all)
 step_numbers choice s who (req.Reclaim a b) = (λ all. all)
 
 -- a request's reply names its open by the number in both halves
-no_zero : (n : ℕ) → (n + 1 == 0) ≡ false
+pub no_zero : (n : ℕ) → (n + 1 == 0) ≡ false
 no_zero n = search rules
 
 unless_names : (refusal : Option ℕ) (s : Share) (done : Rep × Share) → Names done.0 → Names (unless refusal s done).0

@@ -23,10 +23,11 @@ use Rattle.fs_plain.specs.World.{us, put_off, sent_but, behind_create, is_creati
 use Rattle.fs_plain.specs.Replay.{Running, Owner, Replay, running_with, with_running, owner_of}
 use Rattle.fs_plain.specs.Taken.{plain_wish, with_opened, is_wished, after_wish_done, after_next, after_owned, is_right_owned, is_next, after_asked, is_right_asked, after_request, is_right_request}
 use Rattle.fs_plain.specs.View.{Item, Flight, View, same_flying, item_with, flight_with, flights_but, left, is_of_call, is_owned_by, IsFor, IsOf, Sound, calm, waits, reply_for, reply_of_flying, rest_after, opened_after, ran}
-use Rattle.fs_plain.specs.Related.{Related, bare, IsOther, AreDistinct}
+use Rattle.fs_plain.specs.Related.{Related, bare, IsOther, AreDistinct, IsNamed}
 use Rattle.fs_plain.proofs.PlainTree.{bare_of, step_bare}
 use Rattle.fs_plain.proofs.Steps.{step_names, Connection, connection, step_counts, step_leaves, step_numbers}
 use Rattle.fs_plain.proofs.Acts.{pairs_counted}
+use Rattle.fs_plain.proofs.Tidying.{TidyAfter, wish_tidy}
 use Rattle.fs_plain.proofs.Lookups.{waiting_but, no_reply, left_interim, left_reply, left_aside, sound_interim, sound_reply, sound_aside, replies_interim, replies_aside, reply_there, reply_elsewhere}
 
 -- the request of a program's wish is that wish, and the machine takes it
@@ -246,6 +247,7 @@ aside_taken s r v f p old found none unowned =
         belongs = old.belongs;
         calls = old.calls;
         named = old.named;
+        tidy = old.tidy;
         fresh = old.fresh;
       },
     )
@@ -279,6 +281,7 @@ pend_related s r v f old found =
       belongs = old.belongs;
       calls = old.calls;
       named = old.named;
+      tidy = old.tidy;
       fresh = old.fresh;
     }
   where
@@ -394,6 +397,10 @@ owned_taken s r v f p old n i o wish rest found owner item flying asks owned num
         belongs = old.belongs;
         calls = old.calls;
         named = old.named;
+        tidy = subst (λ (l : List ℕ). TidyAfter r.running c rest (step_of (choice_now s.grants) s us (plain_wish l wish))) (not_opened coming f.mid i flying none)
+            (wish_tidy (choice_now s.grants) s r.running c wish rest
+            (subst (λ (k : ℕ). running_with k r.running ≡ Some c) (number ∙ sym (item_holds IsNamed n v.items i item old.named).1) run_on)
+            left_over old.standing.0 old.tidy);
         fresh = old.fresh;
       }),
     )

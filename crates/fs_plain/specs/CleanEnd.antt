@@ -1,5 +1,5 @@
 -- What a run leaves behind on the share.
-use Rattle.std.specs.Prelude.{◌≡◌, ℕ, ◌==◌, Bool, true, not, List, [], ◌∷◌}
+use Rattle.std.specs.Prelude.{◌≡◌, ℕ, ◌==◌, Bool, true, not, ◌||◌, List, [], ◌∷◌}
 use Rattle.std.specs.List.{list_all}
 use Rattle.share_spec.specs.declared.share.Share.{Share}
 use Rattle.smb_link.specs.declared.event.Event.{Event}
@@ -18,13 +18,20 @@ abbrev pub replay_after : Run → Share → Replay → List Event → Replay
 replay_after run s r [] = r
 replay_after run s r (e ∷ events) = replay_after run (happens s e) (next run s r e) events
 
--- at the end of a run of status 0 the files, their bytes and their names are those of the plain share, and no open of this client
--- stands
-pub record EndsClean (run : Run) (room : ℕ) (fold : Bool) (story : List Event) : Type 0 where
-  pub nodes : run.status ≡ 0
-      → (share_after (start room fold story) story).nodes
-      ≡ (replay_after run (start room fold story) (at_first room fold story) story).plain.nodes
-  pub entries : run.status ≡ 0
-      → (share_after (start room fold story) story).entries
-      ≡ (replay_after run (start room fold story) (at_first room fold story) story).plain.entries
-  pub opens : run.status ≡ 0 → list_all (λ o. not (o.who.0 == 0)) (share_after (start room fold story) story).opens ≡ true
+-- the share is left as the plain client leaves it: the files, their bytes and their names are those of the plain share, and no open of
+-- this client stands
+pub record Cleared (s : Share) (r : Replay) : Type 0 where
+  pub nodes : s.nodes ≡ r.plain.nodes
+  pub entries : s.entries ≡ r.plain.entries
+  pub opens : list_all (λ o. not (o.who.0 == 0)) s.opens ≡ true
+
+-- a run that ends by one of these statuses leaves the share: 0 after its last call, 2 at a line that is no call, 7 where the script
+-- cannot be read
+abbrev pub is_left : ℕ → Bool
+is_left status = status == 0 || status == 2 || status == 7
+
+-- at the end of such a run the share is left so
+abbrev pub EndsClean : Run → ℕ → Bool → List Event → Type 0
+EndsClean run room fold story =
+    is_left run.status ≡ true
+    → Cleared (share_after (start room fold story) story) (replay_after run (start room fold story) (at_first room fold story) story)

@@ -13,6 +13,7 @@ pub mod CleanEnd
 pub mod Prompt
 pub mod Thrift
 pub mod View
+pub mod Tidy
 pub mod Related
 pub mod Sends
 pub mod Moves

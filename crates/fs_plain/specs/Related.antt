@@ -7,6 +7,7 @@ use Rattle.share_spec.specs.declared.share.Share.{Share}
 use Rattle.share_spec.specs.Reply.{fid_of}
 use Rattle.fs_plain.specs.Replies.{Pays}
 use Rattle.fs_plain.specs.Replay.{Replay, Owner, plain_of, owner_of}
+use Rattle.fs_plain.specs.Tidy.{AreTidy}
 use Rattle.fs_plain.specs.View.{Item, View, same_flying, flight_with, left, Sound, calm, waits, ran, IsOwned, Belongs}
 
 -- the share without leases and without a connection
@@ -61,7 +62,7 @@ pub record IsFresh (m : ℕ) (owners : List Owner) (v : View) : Type 0 where
 
 -- The plain share is the real one without leases and connection, with the same numbers. What is owed, behind what was got and not looked
 -- at, is for the requests in flight, and the share waits to take the others. The calls run on the plain side as far as the share took
--- their requests.
+-- their requests, and will close the opens that they made.
 pub record Related (s : Share) (r : Replay) (v : View) : Type 0 where
   pub tree : r.plain ≡ bare s
   pub leases : s.leases ≡ []
@@ -81,4 +82,5 @@ pub record Related (s : Share) (r : Replay) (v : View) : Type 0 where
   pub belongs : AllByRecursion (Belongs v.items) v.flights
   pub calls : AreDistinct v.items
   pub named : AllByRecursion IsNamed v.items
+  pub tidy : AreTidy r.running s.opens
   pub fresh : (m : ℕ) → v.next ≤ m → IsFresh m r.owners v
