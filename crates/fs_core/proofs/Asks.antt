@@ -1,6 +1,6 @@
 -- What a request that is sent leads to.
 use Rattle.std.proofs.Common.{rules, ◌≡◌, ◌∙◌, refl, sym, ap, subst, ℕ, ◌+◌, ◌-◌, ◌^◌, ◌<◌, ◌==◌, Bool, true, false, if◌then◌else◌, List, [], ◌∷◌, Option, Some, None, Result, Ok, Err, arith}
-use Rattle.std.specs.Prelude.{map, is_none, IfOk}
+use Rattle.std.specs.Prelude.{map, is_none, IfOk, IfErr}
 use Rattle.std.specs.List.{AllByRecursion}
 use Rattle.smb_base.specs.declared.names.Mid.{Mid}
 use Rattle.smb_head.specs.declared.request.Request.{Request}
@@ -20,15 +20,19 @@ use Rattle.fs_plain.specs.Sends.{IsWish, MayFlyFor, IsIdle, MaySend}
 use Rattle.fs_plain.specs.Related.{Related}
 use Rattle.fs_plain.specs.Moves.{Leads, Leaves}
 use Rattle.fs_plain.proofs.Leading.{leads_then, leads_seen, leads_for, leads_send}
-use Rattle.fs_plain.proofs.Leaving.{leaves_now, leads_then_leaves, leaves_shares, leaves_cut, gains_two}
+use Rattle.fs_plain.proofs.Leaving.{leaves_now, leads_then_leaves, leaves_never, leaves_foul, leaves_shares, leaves_cut, gains_two}
 use Rattle.fs_core.specs.declared.part.Awaited.{Awaited}
+use Rattle.fs_core.specs.declared.part.Kind as kinds
 use Rattle.fs_core.specs.declared.wire.Stop.{Stop}
+use Rattle.fs_core.specs.declared.wire.Stop.TheVariants as stop
 use Rattle.fs_core.specs.Written.{IsAlone}
+use Rattle.fs_core.specs.Foul.{foul_stop}
+use Rattle.fs_core.specs.Course.{SaysNothing, StopsUnread}
 use Rattle.fs_core.specs.Judged.{Says}
 use Rattle.fs_core.specs.Exchange.{resting, awaiting, Awaits, ReplyLeads}
 use Rattle.fs_core.specs.Asking.{IsAsideBody, SendLeads, awaited_of, AskLeads, flown, landed, flight_of, MayRequest, RequestLeads, AnswerLeads}
 use Rattle.fs_core.proofs.Sent.{frame_alone}
-use Rattle.fs_core.proofs.Replying.{aside_lands, call_lands}
+use Rattle.fs_core.proofs.Replying.{aside_lands, call_lands, says_something}
 
 itself : (n : ℕ) → (n == n) ≡ true
 itself n = search rules
@@ -53,16 +57,16 @@ sends_frame message sent old new is gains options seed v f may =
 
 -- and the connection with it
 pub sends_cut : (message sent : List ℕ) (old new : Option (List Event)) → sent ≡ frame message → Gains (event.Sent sent ∷ event.Cut ∷ []) old new
-    → (options : Options) (seed : List ℕ) (v : View) (f : Flight) → MaySend v f (frame message) → Leaves options seed v old new
+    → (options : Options) (seed : List ℕ) (v : View) (f : Flight) → MaySend v f (frame message) → Leaves options seed v false old new
 sends_cut message sent old new is gains options seed v f may =
     let two = gains_two (event.Sent sent) event.Cut old new gains in
-    leads_then_leaves options seed v (with_flight f v) old two.0 new (fly_numbers f v.items)
+    leads_then_leaves options seed v (with_flight f v) false old two.0 new (fly_numbers f v.items)
     (sends_frame message sent old two.0 is two.1 options seed v f may)
     (leaves_cut options seed (with_flight f v) two.0 new two.2)
 
 -- for want of memory nothing is
 pub sends_nothing : (message : List ℕ) (old new : Option (List Event)) → Gains [] old new
-    → (options : Options) (seed : List ℕ) (v : View) (f : Flight) → MaySend v f (frame message) → Leaves options seed v old new
+    → (options : Options) (seed : List ℕ) (v : View) (f : Flight) → MaySend v f (frame message) → Leaves options seed v false old new
 sends_nothing message old new gains options seed v f may = leaves_shares options seed v old new gains
 
 -- a request of the connection itself: its flight
@@ -131,7 +135,7 @@ pub ask_broken : (request : Request) (next : ℕ) (message : List ℕ) (why : St
     → SendLeads message (Ok tt) old mid → ReplyLeads (awaited_of next request) (Err why) mid new → AskLeads request next (Err why) old new
 ask_broken request next message why old mid new a sends replies options seed items begun aside =
     let f : Flight = aside_flight next message in
-    leads_then_leaves options seed (resting items begun next) (awaiting items begun f) old mid new refl
+    leads_then_leaves options seed (resting items begun next) (awaiting items begun f) (foul_stop why) old mid new refl
     (flies options seed items begun next message old mid (sends options seed (resting items begun next) f (may_ask items begun next message (a.aside aside) a.mid a.alone)))
     (replies options seed items begun f (asks_awaits request next message a))
 
@@ -142,8 +146,9 @@ ask_unsent request next message why old new a sends options seed items begun asi
     sends options seed (resting items begun next) (aside_flight next message) (may_ask items begun next message (a.aside aside) a.mid a.alone)
 
 -- nothing is done
-pub ask_nothing : (request : Request) (next : ℕ) (why : Stop) (story : Option (List Event)) → AskLeads request next (Err why) story story
-ask_nothing request next why story options seed items begun aside = leaves_now options seed (resting items begun next) story
+pub ask_nothing : (request : Request) (next : ℕ) (why : Stop) (story : Option (List Event)) → foul_stop why ≡ false → AskLeads request next (Err why) story story
+ask_nothing request next why story pure options seed items begun aside =
+    subst (λ (t : Bool). Leaves options seed (resting items begun next) t story story) (sym pure) (leaves_now options seed (resting items begun next) story)
 
 -- a call's request is announced, and is in flight once it is sent
 announced_item : (number : ℕ) (mid : Mid) (message begun : List ℕ) (i : Item) → MayRequest number mid message begun i
@@ -206,12 +211,14 @@ request_sent number mid message old now new alone gains sends options seed begun
 pub request_unsent : (number : ℕ) (mid : Mid) (message : List ℕ) (why : Stop) (old now new : Option (List Event)) → IsAlone message
     → Gains (event.Marked (mark.For number mid 1) ∷ []) old now → SendLeads message (Err why) now new → RequestLeads number mid message (Err why) old new
 request_unsent number mid message why old now new alone gains sends options seed begun i may =
-    leads_then_leaves options seed (resting (i ∷ []) begun mid.0) (announced_view number mid begun i) old now new refl
+    leads_then_leaves options seed (resting (i ∷ []) begun mid.0) (announced_view number mid begun i) (foul_stop why) old now new refl
     (announces options seed number mid message begun i old now may gains)
     (sends options seed (announced_view number mid begun i) (flight_of number mid message) (may_request number mid message begun i may alone))
 
-pub request_nothing : (number : ℕ) (mid : Mid) (message : List ℕ) (why : Stop) (old new : Option (List Event)) → Gains [] old new → RequestLeads number mid message (Err why) old new
-request_nothing number mid message why old new gains options seed begun i may = leaves_shares options seed (resting (i ∷ []) begun mid.0) old new gains
+pub request_nothing : (number : ℕ) (mid : Mid) (message : List ℕ) (why : Stop) (old new : Option (List Event)) → Gains [] old new → foul_stop why ≡ false
+    → RequestLeads number mid message (Err why) old new
+request_nothing number mid message why old new gains pure options seed begun i may =
+    subst (λ (t : Bool). Leaves options seed (resting (i ∷ []) begun mid.0) t old new) (sym pure) (leaves_shares options seed (resting (i ∷ []) begun mid.0) old new gains)
 
 -- its reply is looked at
 landed_item : (f : Flight) (i : Item) (reply : Rep) → i.flying ≡ Some f.mid → land f.mid reply i ≡ landed reply i
@@ -227,16 +234,20 @@ answer_read request part reply old new replies says options seed begun f i is =
     (λ s r old. subst (λ (j : Item). Related s r (resting (j ∷ []) begun (f.mid.0 + 1))) (landed_item f i reply is.flying)
     (call_lands request (i ∷ []) begun f i.number part got.0 reply is.owner is.awaits.command replies.0 says s r old)))
 
--- it says nothing
-pub answer_unread : (request : Awaited) (part : List ℕ) (why : Stop) (old new : Option (List Event)) → ReplyLeads request (Ok part) old new → AnswerLeads request (Err why) old new
-answer_unread request part why old new replies options seed begun f i is =
+-- it says nothing, which is foul
+pub answer_unread : (request : Awaited) (part : List ℕ) (fault : kinds.Kind) (why : Stop) (old new : Option (List Event)) → ReplyLeads request (Ok part) old new → SaysNothing request.command part fault
+    → AnswerLeads request (Err why) old new
+answer_unread request part fault why old new replies nothing options seed begun f i is =
     let got = replies.1 options seed (i ∷ []) begun f is.awaits in
-    leads_then_leaves options seed (awaiting (i ∷ []) begun f) (with_hand (part ∷ got.0) (awaiting (i ∷ []) begun f)) old new new refl
-    got.1 (leaves_now options seed (with_hand (part ∷ got.0) (awaiting (i ∷ []) begun f)) new)
+    leaves_foul options seed (awaiting (i ∷ []) begun f) (foul_stop why) old new
+    (leads_then_leaves options seed (awaiting (i ∷ []) begun f) (with_hand (part ∷ got.0) (awaiting (i ∷ []) begun f)) true old new new refl
+    got.1
+    (leaves_never options seed (with_hand (part ∷ got.0) (awaiting (i ∷ []) begun f)) new
+    (says_something request (i ∷ []) begun f i.number part fault got.0 is.owner is.awaits.command replies.0 nothing)))
 
 -- it does not come
-pub answer_broken : (request : Awaited) (why why' : Stop) (old new : Option (List Event)) → ReplyLeads request (Err why) old new → AnswerLeads request (Err why') old new
-answer_broken request why why' old new replies options seed begun f i is = replies options seed (i ∷ []) begun f is.awaits
+pub answer_broken : (request : Awaited) (why : Stop) (old new : Option (List Event)) → ReplyLeads request (Err why) old new → AnswerLeads request (Err why) old new
+answer_broken request why old new replies options seed begun f i is = replies options seed (i ∷ []) begun f is.awaits
 
 -- however the wait ends
 pub ask_ends : (request : Request) (next : ℕ) (message : List ℕ) (result : Result (List ℕ) Stop) (old mid new : Option (List Event)) → Asks request next message
@@ -250,6 +261,7 @@ request_ends number mid message (Ok x) old now new alone gains sends = request_s
 request_ends number mid message (Err why) old now new alone gains sends = request_unsent number mid message why old now new alone gains sends
 
 pub answer_ends : (request : Awaited) (part : List ℕ) (result : Result Rep Stop) (old new : Option (List Event)) → ReplyLeads request (Ok part) old new
-    → IfOk result (Says request.command part) → AnswerLeads request result old new
-answer_ends request part (Ok reply) old new replies says = answer_read request part reply old new replies says
-answer_ends request part (Err why) old new replies says = answer_unread request part why old new replies
+    → IfOk result (Says request.command part) → IfErr result (StopsUnread request.command part) → AnswerLeads request result old new
+answer_ends request part (Ok reply) old new replies says silent = answer_read request part reply old new replies says
+answer_ends request part (Err (stop.Fault fault)) old new replies says silent = answer_unread request part fault (stop.Fault fault) old new replies silent
+answer_ends request part (Err why) old new replies says silent = absurd silent

@@ -14,7 +14,7 @@ use Rattle.fs_core.specs.declared.part.Kind.{Kind}
 use Rattle.fs_core.specs.declared.part.Kind.TheVariants as kind
 use Rattle.fs_core.specs.declared.part.Look.{Look}
 use Rattle.fs_core.specs.declared.part.Look.TheVariants as look
-use Rattle.fs_core.specs.Judged.{has_reply_body, is_notice, look_of, look_with, look_at_final, answered, judged_as, judged_by, judged_within, judged, PassedWith, IsPassed, FinalWith, IsFinal, Brings}
+use Rattle.fs_core.specs.Judged.{has_reply_body, is_notice, look_of, look_with, look_at_final, answered, judged_as, judged_by, judged_within, judged, PassedWith, IsPassed, FinalWith, IsFinal, HasBodyWith, HasBody, Brings}
 
 passed_not_fault : (k : Kind) → look.Fault k ≡ look.Passed → ⊥
 passed_not_fault k is = search rules
@@ -81,6 +81,35 @@ look_finals request p (Err fault) is = absurd (final_not_fault kind.Head is)
 look_finals request p (Ok head) is =
     finals request head p (head.mid.0 == 2 ^ 64 - 1) (head.mid.0 == request.mid.0) (head.command == request.command && has head.flags.0 1) (is_interim head) refl refl refl is
 
+-- and it has its body
+bodies : (head : Head) (p : List ℕ) (t u v w x : Bool)
+    → (if t then (if is_notice head p then look.Passed else look.Fault kind.Body)
+    else (if u then (if v then (if w then (if is_error p then look.Passed else look.Fault kind.Body) else (if x then look.Final else look.Fault kind.Body)) else look.Fault kind.Body)
+    else look.Fault kind.Stranger)) ≡ look.Final
+    → x ≡ true
+bodies head p t u v w true is = refl
+bodies head p true u v w false is = absurd (no (is_notice head p) is)
+  where
+    no : (n : Bool) → (if n then look.Passed else look.Fault kind.Body) ≡ look.Final → ⊥
+    no true is = passed_not_final is
+    no false is = final_not_fault kind.Body is
+bodies head p false true true true false is = absurd (no (is_error p) is)
+  where
+    no : (n : Bool) → (if n then look.Passed else look.Fault kind.Body) ≡ look.Final → ⊥
+    no true is = passed_not_final is
+    no false is = final_not_fault kind.Body is
+bodies head p false true true false false is = absurd (final_not_fault kind.Body is)
+bodies head p false true false w false is = absurd (final_not_fault kind.Body is)
+bodies head p false false v w false is = absurd (final_not_fault kind.Stranger is)
+
+look_bodies : (request : Awaited) (p : List ℕ) (head : Result Head HeadFault) → look_with head (Some request) p ≡ look.Final → HasBodyWith head request.command p
+look_bodies request p (Err fault) is = absurd (final_not_fault kind.Head is)
+look_bodies request p (Ok head) is =
+    let final : FinalWith (Ok head) request = look_finals request p (Ok head) is in
+    subst (λ (c : ℕ). has_reply_body head.status.0 c p ≡ true) final.1
+    (bodies head p (head.mid.0 == 2 ^ 64 - 1) (head.mid.0 == request.mid.0) (head.command == request.command && has head.flags.0 1) (is_interim head)
+    (has_reply_body head.status.0 head.command p) is)
+
 ok_not_err : (k : Kind) (f : Option (List ℕ)) (r : Result (Option (List ℕ)) Kind) → r ≡ Err k → r ≡ Ok f → ⊥
 ok_not_err k f r is is' = search rules
 
@@ -96,24 +125,26 @@ more request p messages (Some part) pass brings = record {
   are = ap (λ (l : List (List ℕ)). p ∷ l) brings.are;
   pass = (pass, brings.pass);
   final = brings.final;
+  body = brings.body;
 }
 
-here : (request : Awaited) (p : List ℕ) (messages : List (List ℕ)) (found : Option (List ℕ)) (others : Result (Option (List ℕ)) Kind) → IsFinal request p → answered p others ≡ Ok found
-    → Brings request (p ∷ messages) found
-here request p messages found (Err k) final is = absurd (ok_not_err k found (Err k) refl is)
-here request p messages found (Ok f) final is = subst (λ (g : Option (List ℕ)). Brings request (p ∷ messages) g) (same_ok (Some p) found (Ok (Some p)) refl is) (record {
+here : (request : Awaited) (p : List ℕ) (messages : List (List ℕ)) (found : Option (List ℕ)) (others : Result (Option (List ℕ)) Kind) → IsFinal request p → HasBody request.command p
+    → answered p others ≡ Ok found → Brings request (p ∷ messages) found
+here request p messages found (Err k) final body is = absurd (ok_not_err k found (Err k) refl is)
+here request p messages found (Ok f) final body is = subst (λ (g : Option (List ℕ)). Brings request (p ∷ messages) g) (same_ok (Some p) found (Ok (Some p)) refl is) (record {
   passed = [];
   behind = messages;
   are = refl;
   pass = tt;
   final = final;
+  body = body;
 })
 
 by_look : (request : Awaited) (p : List ℕ) (messages : List (List ℕ)) (found : Option (List ℕ)) (l : Look) (others : Option Awaited → Result (Option (List ℕ)) Kind)
     → look_of (Some request) p ≡ l → judged_as l p (Some request) others ≡ Ok found
     → (others (Some request) ≡ Ok found → Brings request messages found) → Brings request (p ∷ messages) found
 by_look request p messages found look.Passed others looks is later = more request p messages found (look_passes request p (head_of p) looks) (later is)
-by_look request p messages found look.Final others looks is later = here request p messages found (others None) (look_finals request p (head_of p) looks) is
+by_look request p messages found look.Final others looks is later = here request p messages found (others None) (look_finals request p (head_of p) looks) (look_bodies request p (head_of p) looks) is
 by_look request p messages found (look.Fault k) others looks is later = absurd (ok_not_err k found (Err k) refl is)
 
 by_part : (request : Awaited) (head : Result Head HeadFault) (at : Step) (found : Option (List ℕ)) (others : Option Awaited → List ℕ → Result (Option (List ℕ)) Kind)

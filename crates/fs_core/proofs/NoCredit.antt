@@ -1,5 +1,5 @@
 -- No message is faulty for want of an id: that cause is the client's own.
-use Rattle.std.proofs.Common.{rules, ◌≡◌, ◌⊎◌, inl, inr, refl, ap, sym, ◌∙◌, subst, ℕ, zero, suc, ◌==◌, ◌&&◌, ◌^◌, ◌-◌, length, Bool, true, false, if◌then◌else◌, List, Option, Some, None, Result, Ok, Err}
+use Rattle.std.proofs.Common.{rules, ◌≡◌, inl, inr, refl, ap, subst, ℕ, zero, suc, ◌==◌, ◌&&◌, ◌^◌, ◌-◌, length, Bool, true, false, if◌then◌else◌, List, Option, Some, None, Result, Ok, Err}
 use Rattle.smb_head.specs.declared.head.Head.{Head}
 use Rattle.smb_head.specs.declared.head.HeadFault.{HeadFault}
 use Rattle.smb_head.specs.Header.{head_of}
@@ -14,8 +14,8 @@ use Rattle.fs_core.specs.declared.part.Look.{Look}
 use Rattle.fs_core.specs.declared.part.Look.TheVariants as look
 use Rattle.fs_core.specs.declared.wire.Stop.{Stop}
 use Rattle.fs_core.specs.declared.wire.Stop.TheVariants as stop
-use Rattle.fs_core.specs.Judged.{judged, judged_within, judged_by, judged_as, answered, look_of, look_with, looked, looked_for, looked_by, look_at_reply, look_at_final, has_reply_body, is_notice}
-use Rattle.fs_core.specs.Course.{bytes_got, Decides, IsFaulty, AwaitedSo}
+use Rattle.fs_core.specs.Judged.{judged, judged_within, judged_by, judged_as, answered, look_of, look_with, looked_for, looked_by, look_at_reply, look_at_final, has_reply_body, is_notice}
+use Rattle.fs_core.specs.Course.{bytes_got, Decides, Tally, IsFaulty, AwaitedSo}
 
 abbrev is_credit : kinds.Kind → Bool
 is_credit kind.Credit = true
@@ -93,11 +93,11 @@ pub never_faulty : (request : Awaited) (bytes : List ℕ) (number : ℕ) → IsF
 never_faulty request bytes number (inl breaks) = not_credit (ap is_credit breaks.0)
 never_faulty request bytes number (inr decides) = never_decides request bytes decides.0
 
-pub never_awaited : (patience : ℕ) (request : Awaited) (before after : ℕ) (events : List Event) → AwaitedSo patience request before after (Err (stop.Fault kind.Credit)) events → ⊥
+pub never_awaited : (patience : ℕ) (request : Awaited) (before after : Tally) (events : List Event) → AwaitedSo patience request before after (Err (stop.Fault kind.Credit)) events → ⊥
 never_awaited patience request before after events so = never_faulty request (bytes_got events) so.1.0 so.1.1
 
 -- what a stop for want of an id means, by how the wait ended
-pub starves_awaited : (patience : ℕ) (request : Awaited) (before after : ℕ) (P : Type 0) (result : Result (List ℕ) Stop) (events : List Event) → AwaitedSo patience request before after result events
+pub starves_awaited : (patience : ℕ) (request : Awaited) (before after : Tally) (P : Type 0) (result : Result (List ℕ) Stop) (events : List Event) → AwaitedSo patience request before after result events
     → result ≡ Err (stop.Fault kind.Credit) → P
 starves_awaited patience request before after P result events so is =
     absurd (never_awaited patience request before after events (subst (λ (r : Result (List ℕ) Stop). AwaitedSo patience request before after r events) is so))

@@ -1,5 +1,5 @@
 -- The wait for a reply goes on, and ends.
-use Rattle.std.proofs.Common.{rules, ◌≡◌, ◌∙◌, inl, inr, refl, sym, ap, subst, ℕ, ◌+◌, ◌-◌, ◌^◌, ◌<◌, ◌≤◌, ◌==◌, ◌&&◌, Bool, true, false, not, if◌then◌else◌, List, [], ◌∷◌, ◌++◌, Option, Some, None, Result, Ok, Err, arith, append-nil}
+use Rattle.std.proofs.Common.{rules, ◌≡◌, ◌∙◌, inl, inr, refl, sym, ap, subst, ℕ, ◌+◌, ◌-◌, ◌^◌, ◌<◌, ◌≤◌, ◌==◌, Bool, true, false, List, [], ◌∷◌, ◌++◌, Option, Some, None, Result, Ok, Err, arith, append-nil}
 use Rattle.std.specs.List.{AllByRecursion}
 use Rattle.std.specs.Prelude.{map}
 use Rattle.smb_base.specs.declared.names.Mid.{Mid}
@@ -15,97 +15,29 @@ use Rattle.share_spec.specs.declared.share.Share.{Share}
 use Rattle.share_spec.specs.State.{has}
 use Rattle.fs_types.specs.declared.options.Options.{Options}
 use Rattle.smb_link.specs.declared.event.Event.{Event}
-use Rattle.fs_plain.specs.Replies.{command_of, answers, is_interim, is_error, reply_by_status, reply_with, reply_in, interim_with, is_interim_of, is_aside_by_status, aside_with, is_aside_reply}
+use Rattle.fs_plain.specs.Replies.{command_of, answers, is_interim, reply_by_status, reply_in, is_interim_of}
 use Rattle.fs_plain.specs.Replay.{Replay}
-use Rattle.fs_plain.specs.View.{Item, Flight, View, flight_with, flights_but, is_of_call, IsFor, Sound, with_hand, without_flight, messages_among, with_reply, land}
+use Rattle.fs_plain.specs.View.{Item, Flight, View, flights_but, is_of_call, IsFor, Sound, with_hand, without_flight, messages_among, with_reply, land}
 use Rattle.fs_plain.specs.Related.{Related, Settles}
 use Rattle.fs_plain.specs.Moves.{Leads, Leaves}
 use Rattle.fs_plain.proofs.Getting.{interim_related, aside_related, reply_related}
 use Rattle.fs_plain.proofs.Leading.{leads_nowhere, leads_then, leads_seen}
-use Rattle.fs_plain.proofs.Leaving.{leaves_now, leads_then_leaves}
+use Rattle.fs_plain.proofs.Leaving.{leaves_now, leads_then_leaves, leaves_never, leaves_foul}
 use Rattle.fs_core.specs.declared.part.Awaited.{Awaited}
+use Rattle.fs_core.specs.declared.part.Kind as kinds
 use Rattle.fs_core.specs.declared.wire.TheConstants.{MAX_FRAMES}
 use Rattle.fs_core.specs.declared.listen.Heard.TheVariants as heard
-use Rattle.fs_core.specs.Judged.{judged, PassedWith, IsPassed, FinalWith, IsFinal, SaysWith, Says, Replies}
-use Rattle.fs_core.specs.Hearing.{Hears}
-use Rattle.fs_core.specs.Exchange.{resting, awaiting, Awaits, ReplyLeads}
+use Rattle.fs_core.specs.declared.part.Kind.{Kind}
+use Rattle.fs_core.specs.declared.wire.Stop.{Stop}
+use Rattle.fs_core.specs.declared.wire.Stop.TheVariants as stop
+use Rattle.fs_core.specs.Foul.{is_foul}
+use Rattle.fs_core.specs.Course.{SaysNothingWith, SaysNothing}
+use Rattle.fs_core.specs.Judged.{judged, PassedWith, IsPassed, FinalWith, IsFinal, HasBody, SaysWith, Says, Replies}
+use Rattle.fs_core.specs.Hearing.{all_ok, Hears}
+use Rattle.fs_core.specs.Exchange.{resting, awaiting, Awaits, TakesFrame, ReplyLeads}
 use Rattle.fs_core.proofs.Brought.{brings}
-
-is_number : (a b : ℕ) → (a == b) ≡ true → a ≡ b
-is_number a b is = search rules
-
-no : (n : Bool) → n ≡ true → n ≡ false → ⊥
-no n is is' = search rules
-
-three : (a b c : Bool) → (a && b && c) ≡ true → (a ≡ true) × (b ≡ true) × (c ≡ true)
-three true true c is = (refl, refl, is)
-three true false c is = absurd (no _ is refl)
-three false b c is = absurd (no _ is refl)
-
-some_of : {X : Type 0} (t : Bool) (o : Option X) (x : X) → (if t then o else None) ≡ Some x → (t ≡ true) × (o ≡ Some x)
-some_of true o x is = (refl, is)
-some_of false o x is = absurd (never is)
-  where
-    never : None ≡ Some x → ⊥
-    never is = search rules
-
-two : (a b : Bool) → (a && b) ≡ true → (a ≡ true) × (b ≡ true)
-two true b is = (refl, is)
-two false b is = absurd (no _ is refl)
-
-not_true : (a : Bool) → not a ≡ true → a ≡ false
-not_true true is = absurd (no _ is refl)
-not_true false is = refl
-
--- the final reply to a request of the share, by its header
-record RepliesTo (m : Mid) (q part : List ℕ) (reply : Rep) (head : Head) : Type 0 where
-  pub answers_it : answers m q head ≡ true
-  pub final : is_interim head ≡ false
-  pub says : reply_by_status head.status.0 (command_of q) part ≡ Some reply
-
-reply_head : (m : Mid) (q part : List ℕ) (reply : Rep) (head : Result Head HeadFault) → reply_with head m q part ≡ Some reply
-    → (h : Head) × (head ≡ Ok h) × RepliesTo m q part reply h
-reply_head m q part reply (Err fault) is = absurd (never is)
-  where
-    never : None ≡ Some reply → ⊥
-    never is = search rules
-reply_head m q part reply (Ok head) is =
-    let s = some_of (answers m q head && not (is_interim head)) (reply_by_status head.status.0 (command_of q) part) reply is in
-    let t = two (answers m q head) (not (is_interim head)) s.0 in
-    (head, refl, record { answers_it = t.0; final = not_true (is_interim head) t.1; says = s.1 })
-
-reply_is : (m : Mid) (q part : List ℕ) (reply : Rep) → reply_in m q part ≡ Some reply → (h : Head) × (head_of part ≡ Ok h) × RepliesTo m q part reply h
-unfolding reply_in
-reply_is m q part reply is = reply_head m q part reply (head_of part) is
-
-aside_head : (m : Mid) (q part : List ℕ) (head : Result Head HeadFault) → aside_with head m q part ≡ true
-    → (h : Head) × (head ≡ Ok h) × (answers m q h ≡ true) × (is_interim h ≡ false)
-aside_head m q part (Err fault) is = absurd (no _ is refl)
-aside_head m q part (Ok head) is =
-    let t = three (answers m q head) (not (is_interim head)) (is_aside_by_status head.status.0 (command_of q) part) is in
-    (head, refl, t.0, not_true (is_interim head) t.1)
-
-aside_is : (m : Mid) (q part : List ℕ) → is_aside_reply m q part ≡ true → (h : Head) × (head_of part ≡ Ok h) × (answers m q h ≡ true) × (is_interim h ≡ false)
-unfolding is_aside_reply
-aside_is m q part is = aside_head m q part (head_of part) is
-
-interim_head : (m : Mid) (q part : List ℕ) (head : Result Head HeadFault) → interim_with head m q part ≡ true → (h : Head) × (head ≡ Ok h) × (is_interim h ≡ true)
-interim_head m q part (Err fault) is = absurd (no _ is refl)
-interim_head m q part (Ok head) is =
-    let t = three (answers m q head) (is_interim head) (is_error part) is in
-    (head, refl, t.1)
-
-interim_is : (m : Mid) (q part : List ℕ) → is_interim_of m q part ≡ true → (h : Head) × (head_of part ≡ Ok h) × (is_interim h ≡ true)
-unfolding is_interim_of
-interim_is m q part is = interim_head m q part (head_of part) is
-
--- the one flight is the one that is meant
-the_flight : (P : Option Flight → Type 0) (m : Mid) (f : Flight) → (P None → ⊥) → P (flight_with m (f ∷ [])) → (f.mid.0 == m.0 ≡ true) × P (Some f)
-the_flight P m f none holds = by (f.mid.0 == m.0) holds
-  where
-    by : (t : Bool) → P (if t then Some f else None) → (t ≡ true) × P (Some f)
-    by true holds = (refl, holds)
-    by false holds = absurd (none holds)
+use Rattle.fs_core.proofs.Paying.{is_number, no, three, reply_is, aside_is, interim_is, the_flight, none_behind, one_gone}
+use Rattle.fs_core.proofs.Honestly.{honest_judged}
 
 -- a reply to the one flight is not passed over
 not_passed : (f : Flight) (m : Mid) (q part : List ℕ) (h : Head) → f.mid.0 < 2 ^ 64 - 1 → (f.mid.0 == m.0) ≡ true → head_of part ≡ Ok h → answers m q h ≡ true → is_interim h ≡ false
@@ -145,22 +77,10 @@ pass_all s r items begun f (p ∷ passed) ps low all old =
     pass_all s r items begun f passed ps low all.1
     (pass_one s r items begun f p (passed ++ ps) low all.0 old old.paid refl old.in_hand old.sound)
 
--- where nothing is in flight nothing is coming, so nothing is in the hand
-none_behind : (paid owed' : List Owed) (behind : List (List ℕ)) → Sound [] (paid ++ owed') → Settles paid behind → behind ≡ []
-none_behind [] owed' [] sound settled = refl
-none_behind [] owed' (m ∷ ms) sound settled = absurd settled
-none_behind (owed.Interim m q ∷ paid) owed' behind sound settled = absurd sound.0
-none_behind (owed.Reply m q reply ∷ paid) owed' behind sound settled = absurd sound.0.1
-none_behind (owed.Aside m q ∷ paid) owed' behind sound settled = absurd sound.0
-none_behind (owed.Notice key state ∷ paid) owed' behind sound settled = absurd sound
-
-one_gone : (m : Mid) (f : Flight) → (f.mid.0 == m.0) ≡ true → flights_but m (f ∷ []) ≡ []
-one_gone m f is = ap (λ (t : Bool). if not t then f ∷ [] else []) is
-
 not_interim : (request : Awaited) (m : Mid) (q part : List ℕ) → IsFinal request part → is_interim_of m q part ≡ true → ⊥
 not_interim request m q part final is =
     let it = interim_is m q part is in
-    no _ it.2 (subst (λ (h : Result Head HeadFault). FinalWith h request) it.1 final).3
+    no _ it.3 (subst (λ (h : Result Head HeadFault). FinalWith h request) it.1 final).3
 
 -- the reply to a request of the connection itself
 aside_by : (request : Awaited) (s : Share) (r : Replay) (items : List Item) (begun : List ℕ) (f : Flight) (part : List ℕ) (behind : List (List ℕ)) → f.owner ≡ None → IsFinal request part
@@ -222,6 +142,30 @@ pub call_lands : (request : Awaited) (items : List Item) (begun : List ℕ) (f :
 call_lands request items begun f n part behind reply own command final says s r old =
     call_by request s r items begun f n part behind reply own command final says old old.paid refl old.in_hand old.sound
 
+-- so it says something
+none_some : (o : Option Rep) (reply : Rep) → o ≡ None → o ≡ Some reply → ⊥
+none_some o reply is is' = search rules
+
+says_by : (request : Awaited) (f : Flight) (n : ℕ) (part : List ℕ) (fault : kinds.Kind) (behind : List (List ℕ)) (owed' : List Owed) → f.owner ≡ Some n → command_of f.message ≡ request.command
+    → IsFinal request part → SaysNothing request.command part fault → (paid : List Owed) → Settles paid (part ∷ behind) → Sound (f ∷ []) (paid ++ owed') → ⊥
+says_by request f n part fault behind owed' own command final nothing [] settled sound = absurd settled
+says_by request f n part fault behind owed' own command final nothing (owed.Interim m q ∷ paid) settled sound = not_interim request m q part final settled.0
+says_by request f n part fault behind owed' own command final nothing (owed.Reply m q reply ∷ paid) settled sound =
+    let it = reply_is m q part reply settled.0 in
+    let one = the_flight (IsFor true q) m f (λ none. none) sound.0.1 in
+    none_some (reply_by_status it.0.status.0 request.command part) reply (subst (λ (h : Result Head HeadFault). SaysNothingWith h request.command part fault) it.1 nothing).0
+    (subst (λ (c : ℕ). reply_by_status it.0.status.0 c part ≡ Some reply) (ap command_of (sym one.1.0) ∙ command) it.2.says)
+says_by request f n part fault behind owed' own command final nothing (owed.Aside m q ∷ paid) settled sound =
+    let one = the_flight (IsFor false q) m f (λ none. none) sound.0 in
+    no _ (ap is_of_call own) one.1.1
+says_by request f n part fault behind owed' own command final nothing (owed.Notice key state ∷ paid) settled sound = sound
+
+pub says_something : (request : Awaited) (items : List Item) (begun : List ℕ) (f : Flight) (n : ℕ) (part : List ℕ) (fault : kinds.Kind) (behind : List (List ℕ)) → f.owner ≡ Some n
+    → command_of f.message ≡ request.command → IsFinal request part → SaysNothing request.command part fault
+    → (s : Share) (r : Replay) → Related s r (with_hand (part ∷ behind) (awaiting items begun f)) → ⊥
+says_something request items begun f n part fault behind own command final nothing s r old =
+    says_by request f n part fault behind s.owed own command final nothing old.paid old.in_hand old.sound
+
 -- a wait for a reply has come so far: nothing is held, and fewer frames came than may
 pub record Waiting (request : Awaited) (begin now : Option (List Event)) (held : List ℕ) (received next first patience large : ℕ) : Type 0 where
   pub leads : (options : Options) (seed : List ℕ) (items : List Item) (begun : List ℕ) (f : Flight) → Awaits request f
@@ -252,7 +196,7 @@ heard_frame request begin now new held message received next first patience room
     leads_then options seed (awaiting items begun f) (awaiting items begun f) (with_hand (messages_among (parts_of message)) (awaiting items begun f)) begin now new
     (w.leads options seed items begun f awaits)
     (subst (λ (l : List (Result (List ℕ) BadNext)). Leads options seed (awaiting items begun f) (with_hand (messages_among l) (awaiting items begun f)) now new) (append-nil (parts_of message))
-    (hears options seed (awaiting items begun f) (sym w.empty)))
+    (hears options seed (awaiting items begun f) (sym w.empty)).leads)
 
 -- none of them answers: the wait goes on
 pub waiting_more : (request : Awaited) (begin now new : Option (List Event)) (held held' message : List ℕ) (received received' next next' first patience room room' : ℕ)
@@ -290,19 +234,51 @@ waiting_ends request begin now new held message part received next first patienc
       ),
     )
 
--- the frame ends the run
-pub waiting_stops : (request : Awaited) (begin now new : Option (List Event)) (held message : List ℕ) (received next first patience room : ℕ)
+-- and its body is that of its command
+pub waiting_body : (request : Awaited) (message part : List ℕ) → judged (Some request) message ≡ Ok (Some part) → HasBody request.command part
+waiting_body request message part found = let it : Replies request part (messages_among (parts_of message)) = brings request message (Some part) found in it.body
+
+-- a frame in which a fault is found is foul
+waiting_faulty : (request : Awaited) (begin now new : Option (List Event)) (held message : List ℕ) (received next first patience room : ℕ) (fault : Kind)
+    → Waiting request begin now held received next first patience room → Hears held (heard.Frame message) now new → judged (Some request) message ≡ Err fault
+    → (options : Options) (seed : List ℕ) (items : List Item) (begun : List ℕ) (f : Flight) → Awaits request f → Leaves options seed (awaiting items begun f) true begin new
+waiting_faulty request begin now new held message received next first patience room fault w hears is options seed items begun f awaits = by (all_ok (parts_of message)) refl
+  where
+    by : (t : Bool) → all_ok (parts_of message) ≡ t → Leaves options seed (awaiting items begun f) true begin new
+    by true ok =
+        leads_then_leaves options seed (awaiting items begun f) (with_hand (messages_among (parts_of message)) (awaiting items begun f)) true begin new new refl
+        (heard_frame request begin now new held message received next first patience room w hears options seed items begun f awaits)
+        (leaves_never options seed (with_hand (messages_among (parts_of message)) (awaiting items begun f)) new (honest_judged request items begun f message fault awaits ok is))
+    by false broken =
+        leads_then_leaves options seed (awaiting items begun f) (awaiting items begun f) true begin now new refl
+        (w.leads options seed items begun f awaits) ((hears options seed (awaiting items begun f) (sym w.empty)).foul broken)
+
+waiting_gives : (request : Awaited) (begin now new : Option (List Event)) (held message : List ℕ) (received next first patience room : ℕ)
     → Waiting request begin now held received next first patience room → Hears held (heard.Frame message) now new
-    → (options : Options) (seed : List ℕ) (items : List Item) (begun : List ℕ) (f : Flight) → Awaits request f → Leaves options seed (awaiting items begun f) begin new
-waiting_stops request begin now new held message received next first patience room w hears options seed items begun f awaits =
-    leads_then_leaves options seed (awaiting items begun f) (with_hand (messages_among (parts_of message)) (awaiting items begun f)) begin new new refl
+    → (options : Options) (seed : List ℕ) (items : List Item) (begun : List ℕ) (f : Flight) → Awaits request f → Leaves options seed (awaiting items begun f) false begin new
+waiting_gives request begin now new held message received next first patience room w hears options seed items begun f awaits =
+    leads_then_leaves options seed (awaiting items begun f) (with_hand (messages_among (parts_of message)) (awaiting items begun f)) false begin new new refl
     (heard_frame request begin now new held message received next first patience room w hears options seed items begun f awaits)
     (leaves_now options seed (with_hand (messages_among (parts_of message)) (awaiting items begun f)) new)
 
+-- the frame ends the run
+pub waiting_stops : (request : Awaited) (begin now new : Option (List Event)) (held message : List ℕ) (received next first patience room : ℕ) (why : Stop)
+    → Waiting request begin now held received next first patience room → Hears held (heard.Frame message) now new → TakesFrame request message (Err why)
+    → ReplyLeads request (Err why) begin new
+waiting_stops request begin now new held message received next first patience room (stop.Fault fault) w hears takes options seed items begun f awaits =
+    leaves_foul options seed (awaiting items begun f) (is_foul fault) begin new
+    (waiting_faulty request begin now new held message received next first patience room fault w hears takes options seed items begun f awaits)
+waiting_stops request begin now new held message received next first patience room stop.NoMemory w hears takes options seed items begun f awaits =
+    waiting_gives request begin now new held message received next first patience room w hears options seed items begun f awaits
+waiting_stops request begin now new held message received next first patience room stop.Frames w hears takes options seed items begun f awaits =
+    waiting_gives request begin now new held message received next first patience room w hears options seed items begun f awaits
+waiting_stops request begin now new held message received next first patience room stop.Lost w hears takes options seed items begun f awaits = absurd takes
+waiting_stops request begin now new held message received next first patience room stop.Silent w hears takes options seed items begun f awaits = absurd takes
+
 -- or the wait for it does
-pub waiting_breaks : (request : Awaited) (begin now new : Option (List Event)) (held : List ℕ) (received next first patience room : ℕ)
-    → Waiting request begin now held received next first patience room → ((options : Options) (seed : List ℕ) (v : View) → v.held ≡ held → Leaves options seed v now new)
-    → (options : Options) (seed : List ℕ) (items : List Item) (begun : List ℕ) (f : Flight) → Awaits request f → Leaves options seed (awaiting items begun f) begin new
-waiting_breaks request begin now new held received next first patience room w hears options seed items begun f awaits =
-    leads_then_leaves options seed (awaiting items begun f) (awaiting items begun f) begin now new refl
+pub waiting_breaks : (request : Awaited) (begin now new : Option (List Event)) (held : List ℕ) (received next first patience room : ℕ) (foul : Bool)
+    → Waiting request begin now held received next first patience room → ((options : Options) (seed : List ℕ) (v : View) → v.held ≡ held → Leaves options seed v foul now new)
+    → (options : Options) (seed : List ℕ) (items : List Item) (begun : List ℕ) (f : Flight) → Awaits request f → Leaves options seed (awaiting items begun f) foul begin new
+waiting_breaks request begin now new held received next first patience room foul w hears options seed items begun f awaits =
+    leads_then_leaves options seed (awaiting items begun f) (awaiting items begun f) foul begin now new refl
     (w.leads options seed items begun f awaits) (hears options seed (awaiting items begun f) (sym w.empty))

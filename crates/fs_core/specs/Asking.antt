@@ -16,6 +16,7 @@ use Rattle.fs_plain.specs.Moves.{Leads, Leaves}
 use Rattle.fs_core.specs.declared.part.Awaited.{Awaited}
 use Rattle.fs_core.specs.declared.wire.Stop.{Stop}
 use Rattle.fs_core.specs.declared.write.Place.{Place}
+use Rattle.fs_core.specs.Foul.{foul_stop}
 use Rattle.fs_core.specs.Judged.{IsFinal}
 use Rattle.fs_core.specs.Written.{request_head, message_of}
 use Rattle.fs_core.specs.Exchange.{resting, awaiting, Awaits}
@@ -30,7 +31,7 @@ abbrev pub SendLeads : List ℕ → Result (Unit {0}) Stop → Option (List Even
 SendLeads message (Ok x) old new =
     (options : Options) (seed : List ℕ) (v : View) (f : Flight) → MaySend v f (frame message) → Leads options seed v (with_flight f v) old new
 SendLeads message (Err why) old new =
-    (options : Options) (seed : List ℕ) (v : View) (f : Flight) → MaySend v f (frame message) → Leaves options seed v old new
+    (options : Options) (seed : List ℕ) (v : View) (f : Flight) → MaySend v f (frame message) → Leaves options seed v (foul_stop why) old new
 
 -- the request that is awaited
 abbrev pub awaited_of : ℕ → Request → Awaited
@@ -44,7 +45,7 @@ AskLeads request next (Ok part) old new =
     → Leads options seed (resting items begun next) (resting items begun (next + 1)) old new)
 AskLeads request next (Err why) old new =
     (options : Options) (seed : List ℕ) (items : List Item) (begun : List ℕ) → IsAsideBody request.command request.body
-    → Leaves options seed (resting items begun next) old new
+    → Leaves options seed (resting items begun next) (foul_stop why) old new
 
 -- a call with its request in flight, and once the reply is looked at
 abbrev pub flown : Mid → Item → Item
@@ -76,7 +77,7 @@ RequestLeads number mid message (Ok x) old new =
     → Leads options seed (resting (i ∷ []) begun mid.0) (awaiting (flown mid i ∷ []) begun (flight_of number mid message)) old new
 RequestLeads number mid message (Err why) old new =
     (options : Options) (seed : List ℕ) (begun : List ℕ) (i : Item) → MayRequest number mid message begun i
-    → Leaves options seed (resting (i ∷ []) begun mid.0) old new
+    → Leaves options seed (resting (i ∷ []) begun mid.0) (foul_stop why) old new
 
 -- a flight is the request of the only call that is awaited
 pub record IsFlight (request : Awaited) (f : Flight) (i : Item) : Type 0 where
@@ -91,4 +92,4 @@ AnswerLeads request (Ok reply) old new =
     → Leads options seed (awaiting (i ∷ []) begun f) (resting (landed reply i ∷ []) begun (f.mid.0 + 1)) old new
 AnswerLeads request (Err why) old new =
     (options : Options) (seed : List ℕ) (begun : List ℕ) (f : Flight) (i : Item) → IsFlight request f i
-    → Leaves options seed (awaiting (i ∷ []) begun f) old new
+    → Leaves options seed (awaiting (i ∷ []) begun f) (foul_stop why) old new

@@ -26,3 +26,8 @@ granted_in frame = granted_among (parts_of frame)
 -- a count with so many more, in 64 bits
 abbrev pub grown : ℕ → ℕ → ℕ
 grown n more = min (n + more) (2 ^ 64 - 1)
+
+-- how many requests are allowed once these frames came too, one after another
+abbrev pub granted_after : ℕ → List (List ℕ) → ℕ
+granted_after n [] = n
+granted_after n (frame ∷ frames) = granted_after (grown n (granted_in frame)) frames

@@ -8,6 +8,7 @@ use Rattle.fs_plain.specs.Moves.{Leads, Leaves}
 use Rattle.fs_core.specs.declared.part.Awaited.{Awaited}
 use Rattle.fs_core.specs.declared.wire.Stop.{Stop}
 use Rattle.fs_core.specs.declared.wire.Stop.TheVariants as stop
+use Rattle.fs_core.specs.Foul.{foul_stop}
 use Rattle.fs_core.specs.Judged.{judged, IsFinal}
 
 -- the client between two requests: its calls, the lines that were begun, and the least id that was not used; a connection stands, and
@@ -44,4 +45,4 @@ ReplyLeads request (Ok part) old new =
     → (behind : List (List ℕ)) × Leads options seed (awaiting items begun f) (with_hand (part ∷ behind) (awaiting items begun f)) old new)
 ReplyLeads request (Err why) old new =
     (options : Options) (seed : List ℕ) (items : List Item) (begun : List ℕ) (f : Flight) → Awaits request f
-    → Leaves options seed (awaiting items begun f) old new
+    → Leaves options seed (awaiting items begun f) (foul_stop why) old new

@@ -161,6 +161,14 @@ FinalWith (Ok head) request =
 abbrev pub IsFinal : Awaited → List ℕ → Type 0
 IsFinal request message = FinalWith (head_of message) request
 
+-- a message has the body of a final reply of its status to this command
+abbrev pub HasBodyWith : Result Head HeadFault → ℕ → List ℕ → Type 0
+HasBodyWith (Err fault) command part = ⊥
+HasBodyWith (Ok head) command part = has_reply_body head.status.0 command part ≡ true
+
+abbrev pub HasBody : ℕ → List ℕ → Type 0
+HasBody command part = HasBodyWith (head_of part) command part
+
 -- the messages of a frame: some that are passed over, the final reply to a request, and others
 pub record Replies (request : Awaited) (part : List ℕ) (messages : List (List ℕ)) : Type 0 where
   pub passed : List (List ℕ)
@@ -168,6 +176,7 @@ pub record Replies (request : Awaited) (part : List ℕ) (messages : List (List 
   pub are : messages ≡ passed ++ part ∷ behind
   pub pass : AllByRecursion IsPassed passed
   pub final : IsFinal request part
+  pub body : HasBody request.command part
 
 -- what the messages of a frame are, once they are judged: without the reply all of them are passed over
 abbrev pub Brings : Awaited → List (List ℕ) → Option (List ℕ) → Type 0

@@ -1,6 +1,7 @@
 pub mod Written
 pub mod Seen
 pub mod Judged
+pub mod Foul
 pub mod Hearing
 pub mod Exchange
 pub mod Asking

@@ -7,6 +7,7 @@ use Rattle.share_spec.specs.declared.request.RepBody.{RepBody}
 use Rattle.fs_plain.specs.Wire.{has_body, lies, bytes_at}
 use Rattle.fs_plain.specs.Requests.{fid_at}
 use Rattle.fs_core.specs.declared.read.WireFault.{WireFault}
+use Rattle.fs_core.specs.declared.read.WireFault.TheVariants as fault
 
 -- the reply that was read, if there is one
 abbrev pub seen : Result Rep WireFault → Option Rep
@@ -17,6 +18,15 @@ seen (Err fault) = None
 abbrev pub seen_body : Result RepBody WireFault → Option RepBody
 seen_body (Ok b) = Some b
 seen_body (Err fault) = None
+
+-- a fault of a body, and a fault of a reply to this command: the information that a body holds is that of a QUERY_INFO alone
+abbrev pub IsOfBody : WireFault → Type 0
+IsOfBody (fault.Body why) = Unit {0}
+IsOfBody (fault.Info why) = ⊥
+
+abbrev pub IsOfReply : ℕ → WireFault → Type 0
+IsOfReply command (fault.Body why) = Unit {0}
+IsOfReply command (fault.Info why) = command ≡ 16
 
 -- a reply of this status to this command has the command's own body
 abbrev pub is_done : ℕ → ℕ → Bool

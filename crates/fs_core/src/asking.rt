@@ -8,10 +8,10 @@ ghost use Rattle.fs_core.specs.declared.part.Kind.TheVariants as kind;
 ghost use Rattle.fs_core.specs.declared.wire.Stop.TheVariants as stop;
 ghost use Rattle.fs_core.specs.declared.wire.TheConstants.{MAX_FRAMES};
 ghost use Rattle.fs_core.specs.Written.{IsAlone};
-ghost use Rattle.fs_core.specs.Judged.{Says};
+ghost use Rattle.fs_core.specs.Judged.{Says, HasBody};
 ghost use Rattle.fs_core.specs.Asking.{SendLeads, AskLeads, RequestLeads, AnswerLeads};
 ghost use Rattle.smb_link.specs.Came.{seen_by, Came};
-ghost use Rattle.fs_core.specs.Course.{Does, SentSo, RequestedSo, AskedSo, AnsweredSo, SaysNothing, IsFault};
+ghost use Rattle.fs_core.specs.Course.{Does, tally_of, SentSo, RequestedSo, AskedSo, AnsweredSo, StopsUnread};
 
 use crate::exchange::await_reply;
 use crate::part::{Awaited, Kind};
@@ -46,7 +46,8 @@ pub fn ask<L: Link, C: Clock>(
     requires few { wire.old.received < MAX_FRAMES }
     requires short { length request.now.body ≤ 100000 }
     ensures leads { AskLeads request.now wire.old.next result (L.story link.old) (L.story link.new) }
-    ensures came { Does (AskedSo patience request.now wire.old.next wire.old.received wire.new.received result) (seen_by L.story L.connect_faults L.cuts L.quiets link.old) (seen_by L.story L.connect_faults L.cuts L.quiets link.new) }
+    ensures body { IfOk result (HasBody request.now.command) }
+    ensures came { Does (AskedSo patience request.now wire.old.next (tally_of wire.old) (tally_of wire.new) result) (seen_by L.story L.connect_faults L.cuts L.quiets link.old) (seen_by L.story L.connect_faults L.cuts L.quiets link.new) }
     ensures empty { IfOk result (λ _. wire.new.frames ≡ []) }
     ensures few { IfOk result (λ _. wire.new.received < MAX_FRAMES) }
     ensures next { IfOk result (λ _. wire.new.next ≡ wire.old.next + 1) }
@@ -147,7 +148,7 @@ pub fn take_reply<L: Link, C: Clock>(
     requires empty { wire.old.frames ≡ [] }
     requires few { wire.old.received < MAX_FRAMES }
     ensures leads { AnswerLeads awaited result (L.story link.old) (L.story link.new) }
-    ensures came { Does (AnsweredSo patience awaited wire.old.received wire.new.received result) (seen_by L.story L.connect_faults L.cuts L.quiets link.old) (seen_by L.story L.connect_faults L.cuts L.quiets link.new) }
+    ensures came { Does (AnsweredSo patience awaited (tally_of wire.old) (tally_of wire.new) result) (seen_by L.story L.connect_faults L.cuts L.quiets link.old) (seen_by L.story L.connect_faults L.cuts L.quiets link.new) }
     ensures empty { IfOk result (λ _. wire.new.frames ≡ []) }
     ensures few { IfOk result (λ _. wire.new.received < MAX_FRAMES) }
     ensures next { wire.new.next ≡ wire.old.next }
@@ -161,7 +162,7 @@ pub fn take_reply<L: Link, C: Clock>(
 // What the final reply to a request of this command says.
 fn read_final(part: &[u8], command: u16) -> Result<Rep, Stop>
     ensures says { IfOk result (Says command part.now) }
-    ensures silent { IfErr result (λ why. IsFault why × SaysNothing command part.now) }
+    ensures silent { IfErr result (StopsUnread command part.now) }
 {
     let head = match read_head(part) {
         Ok(head) => head,

@@ -3,8 +3,9 @@
 ghost use Rattle.std.specs.Prelude.{◌≡◌, ◌<◌, ◌≤◌, [], IfOk, length};
 ghost use Rattle.fs_core.specs.declared.wire.TheConstants.{MAX_FRAMES};
 ghost use Rattle.smb_link.specs.Came.{seen_by};
+ghost use Rattle.fs_core.specs.Judged.{HasBody};
 ghost use Rattle.fs_core.specs.Exchange.{ReplyLeads};
-ghost use Rattle.fs_core.specs.Course.{Does, AwaitedSo};
+ghost use Rattle.fs_core.specs.Course.{Does, tally_of, AwaitedSo};
 
 use crate::listen::{Heard, hear};
 use crate::part::{Awaited, Kind};
@@ -33,7 +34,8 @@ pub fn await_reply<L: Link, C: Clock>(
     requires empty { wire.old.frames ≡ [] }
     requires few { wire.old.received < MAX_FRAMES }
     ensures leads { ReplyLeads awaited result (L.story link.old) (L.story link.new) }
-    ensures came { Does (AwaitedSo patience awaited wire.old.received wire.new.received result) (seen_by L.story L.connect_faults L.cuts L.quiets link.old) (seen_by L.story L.connect_faults L.cuts L.quiets link.new) }
+    ensures body { IfOk result (HasBody awaited.command) }
+    ensures came { Does (AwaitedSo patience awaited (tally_of wire.old) (tally_of wire.new) result) (seen_by L.story L.connect_faults L.cuts L.quiets link.old) (seen_by L.story L.connect_faults L.cuts L.quiets link.new) }
     ensures empty { IfOk result (λ _. wire.new.frames ≡ []) }
     ensures few { IfOk result (λ _. wire.new.received < MAX_FRAMES) }
     ensures next { wire.new.next ≡ wire.old.next }

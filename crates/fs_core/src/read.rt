@@ -7,7 +7,7 @@ ghost use Rattle.fs_plain.specs.Replies.{granted_state, opened_in, opened_with, 
 ghost use Rattle.smb_body_b.specs.Contexts.{read_of};
 ghost use Rattle.smb_field.specs.declared.field.BodyFault.TheVariants as body_fault;
 ghost use Rattle.fs_core.specs.declared.read.WireFault.TheVariants as fault;
-ghost use Rattle.fs_core.specs.Seen.{seen, seen_body, is_done, is_known, is_opened, IsOpenedIn};
+ghost use Rattle.fs_core.specs.Seen.{seen, seen_body, is_done, is_known, is_opened, IsOpenedIn, IsOfBody, IsOfReply};
 
 use share_spec::{Rep, RepBody};
 use smb_base::{Key, Status};
@@ -56,6 +56,7 @@ pub enum WireFault {
 pub fn read_reply(command: u16, status: Status, part: &[u8]) -> Result<Rep, WireFault>
     ensures exact { seen result ≡ reply_by_status status.0 command part.now }
     ensures unknown { is_done status.0 command ≡ true → is_known command ≡ false → result ≡ Err (fault.Body body_fault.Value) }
+    ensures of_reply { IfErr result (IsOfReply command) }
 {
     if is_done(status, command) {
         done(command, part)
@@ -75,6 +76,7 @@ pub(crate) fn is_done(status: Status, command: u16) -> bool
 fn done(command: u16, part: &[u8]) -> Result<Rep, WireFault>
     ensures exact { seen result ≡ reply_of 0 (body_in command part.now) }
     ensures unknown { is_known command ≡ false → result ≡ Err (fault.Body body_fault.Value) }
+    ensures of_reply { IfErr result (IsOfReply command) }
 {
     match read_body(command, part) {
         Ok(body) => Ok(Rep {
@@ -87,7 +89,8 @@ fn done(command: u16, part: &[u8]) -> Result<Rep, WireFault>
 
 // What a reply of another status says.
 fn refused(status: Status, part: &[u8]) -> Result<Rep, WireFault>
-    ensures { seen result ≡ (if is_error part.now then reply_of status.0 (Some body.None) else None) }
+    ensures exact { seen result ≡ (if is_error part.now then reply_of status.0 (Some body.None) else None) }
+    ensures of_body { IfErr result IsOfBody }
 {
     match read_error_reply(part) {
         Ok(_) => Ok(Rep {
@@ -102,6 +105,7 @@ fn refused(status: Status, part: &[u8]) -> Result<Rep, WireFault>
 fn read_body(command: u16, part: &[u8]) -> Result<RepBody, WireFault>
     ensures exact { seen_body result ≡ body_in command part.now }
     ensures unknown { is_known command ≡ false → result ≡ Err (fault.Body body_fault.Value) }
+    ensures of_reply { IfErr result (IsOfReply command) }
 {
     match command {
         CREATE => read_opened(part),
@@ -113,7 +117,8 @@ fn read_body(command: u16, part: &[u8]) -> Result<RepBody, WireFault>
 
 // What a CREATE gave.
 pub(crate) fn read_opened(part: &[u8]) -> Result<RepBody, WireFault>
-    ensures { seen_body result ≡ opened_in part.now }
+    ensures exact { seen_body result ≡ opened_in part.now }
+    ensures of_body { IfErr result IsOfBody }
 {
     match create_of(part) {
         Ok(create) => with_contexts(&create, part),
@@ -126,6 +131,7 @@ fn create_of(part: &[u8]) -> Result<CreateReply<'_>, WireFault>
     ensures fields { IfOk result (λ x. IsOpenedIn x part.now) }
     ensures is { IfOk result (λ _. is_opened part.now ≡ true) }
     ensures is_not { IfErr result (λ _. is_opened part.now ≡ false) }
+    ensures of_body { IfErr result IsOfBody }
 {
     match read_create_reply(part) {
         Ok(create) => Ok(create),
@@ -136,7 +142,8 @@ fn create_of(part: &[u8]) -> Result<CreateReply<'_>, WireFault>
 // What a CREATE gave, with the contexts of its reply.
 fn with_contexts(create: &CreateReply<'_>, part: &[u8]) -> Result<RepBody, WireFault>
     requires { IsOpenedIn create.now part.now }
-    ensures { seen_body result ≡ opened_with part.now (read_of true create.now.contexts.now) }
+    ensures exact { seen_body result ≡ opened_with part.now (read_of true create.now.contexts.now) }
+    ensures of_body { IfErr result IsOfBody }
 {
     match read_contexts(create.contexts, true) {
         Ok(set) => Ok(opened(create, set)),
@@ -184,7 +191,8 @@ fn known_state(state: u32) -> u8
 
 // That a file was closed.
 fn read_closed(part: &[u8]) -> Result<RepBody, WireFault>
-    ensures { seen_body result ≡ closed_in part.now }
+    ensures exact { seen_body result ≡ closed_in part.now }
+    ensures of_body { IfErr result IsOfBody }
 {
     match read_close_reply(part) {
         Ok(_) => Ok(RepBody::None),

@@ -7,7 +7,7 @@ use Rattle.fs_core.proofs.asking.send_request.Goals as goal
 
 pub returns-in-Err : goal.returns-in-Err
 returns-in-Err g c = record {
-  leads = request_nothing c.args.number c.args.mid c.args.message.now stop.NoMemory _ _ c.in-Err.ensures.err;
+  leads = request_nothing c.args.number c.args.mid c.args.message.now stop.NoMemory _ _ c.in-Err.ensures.err refl;
   came = ([], c.in-Err.ensures.untold, inl (refl, refl));
 }
 
