@@ -22,7 +22,10 @@ use Rattle.fs_plain.specs.Sends.{nth_fid, wish_of, IsWish}
 use Rattle.fs_plain.specs.Moves.{Leads, Leaves}
 use Rattle.fs_plain.proofs.Leading.{leads_nowhere, leads_then}
 use Rattle.fs_plain.proofs.Leaving.{leaves_now, leads_then_leaves}
+use Rattle.fs_core.specs.declared.part.Kind.TheVariants as kind
 use Rattle.fs_core.specs.declared.wire.Stop.{Stop}
+use Rattle.fs_core.specs.declared.wire.Stop.TheVariants as stop
+use Rattle.fs_core.specs.Foul.{foul_stop}
 use Rattle.fs_core.specs.Exchange.{resting, awaiting}
 use Rattle.fs_core.specs.Asking.{flown, landed, flight_of, MayRequest, RequestLeads, IsFlight, AnswerLeads}
 use Rattle.fs_top.specs.Runs.{run_options, MayGoOn, IsSaid, Exchanges, Answers, IsPathOnShare, IsStat, IsStatThere, IsStatOpened, IsStatOpen, IsStatKnown}
@@ -49,24 +52,29 @@ exchange_ends number mid message command (Ok reply) old a b new is low sent ahea
     (answers options seed begun f (flown mid i) (flies number mid message command begun i is low may)))
 exchange_ends number mid message command (Err why) old a b new is low sent ahead answers = λ options seed begun i may.
     let f : Flight = flight_of number mid message in
-    leads_then_leaves options seed (resting (i ∷ []) begun mid.0) (awaiting (flown mid i ∷ []) begun f) old a new refl
+    leads_then_leaves options seed (resting (i ∷ []) begun mid.0) (awaiting (flown mid i ∷ []) begun f) (foul_stop why) old a new refl
     (sent options seed begun i may)
-    (leads_then_leaves options seed (awaiting (flown mid i ∷ []) begun f) (awaiting (flown mid i ∷ []) begun f) a b new refl
+    (leads_then_leaves options seed (awaiting (flown mid i ∷ []) begun f) (awaiting (flown mid i ∷ []) begun f) (foul_stop why) a b new refl
     (ahead options seed (awaiting (flown mid i ∷ []) begun f))
     (answers options seed begun f (flown mid i) (flies number mid message command begun i is low may)))
 
 -- the reading ahead ends the run
 pub exchange_breaks : (number : ℕ) (mid : Mid) (message : List ℕ) (old a new : Option (List Event))
-    → RequestLeads number mid message (Ok tt) old a → ((options : Options) (seed : List ℕ) (v : View) → Leaves options seed v a new)
-    → (options : Options) (seed : List ℕ) (begun : List ℕ) (i : Item) → MayRequest number mid message begun i → Leaves options seed (resting (i ∷ []) begun mid.0) old new
+    → RequestLeads number mid message (Ok tt) old a → ((options : Options) (seed : List ℕ) (v : View) → Leaves options seed v false a new)
+    → (options : Options) (seed : List ℕ) (begun : List ℕ) (i : Item) → MayRequest number mid message begun i → Leaves options seed (resting (i ∷ []) begun mid.0) false old new
 exchange_breaks number mid message old a new sent breaks options seed begun i may =
-    leads_then_leaves options seed (resting (i ∷ []) begun mid.0) (awaiting (flown mid i ∷ []) begun (flight_of number mid message)) old a new refl
+    leads_then_leaves options seed (resting (i ∷ []) begun mid.0) (awaiting (flown mid i ∷ []) begun (flight_of number mid message)) false old a new refl
     (sent options seed begun i may) (breaks options seed (awaiting (flown mid i ∷ []) begun (flight_of number mid message)))
 
 -- nothing is done
 pub answers_nothing : (P : Item → Type 0) (number before : ℕ) (story : Option (List Event))
-    → (seed : List ℕ) (begun : List ℕ) (i : Item) → P i → MayGoOn number begun i → Leaves run_options seed (resting (i ∷ []) begun before) story story
+    → (seed : List ℕ) (begun : List ℕ) (i : Item) → P i → MayGoOn number begun i → Leaves run_options seed (resting (i ∷ []) begun before) false story story
 answers_nothing P number before story seed begun i p may = leaves_now run_options seed (resting (i ∷ []) begun before) story
+
+-- no id may be used
+pub answers_starved : (P : Item → Type 0) (number before after : ℕ) (why : Stop) (story : Option (List Event)) → why ≡ stop.Fault kind.Credit → Answers P number (Err why) before after story story
+answers_starved P number before after why story is seed begun i p may =
+    subst (λ (w : Stop). Leaves run_options seed (resting (i ∷ []) begun before) (foul_stop w) story story) (sym is) (leaves_now run_options seed (resting (i ∷ []) begun before) story)
 
 -- the call's program says so at once
 pub answers_now : (P : Item → Type 0) (number before : ℕ) (a : Answer) (story : Option (List Event)) → ((i : Item) → P i → i.rest ≡ Say a)
@@ -117,18 +125,18 @@ answers_on P Q number before mid message reply (Ok a) between after old now new 
     )
 answers_on P Q number before mid message reply (Err why) between after old now new is on next lands leads later = λ seed begun i p may.
     let j : Item = landed reply (flown mid i) in
-    leads_then_leaves run_options seed (resting (i ∷ []) begun before) (resting (j ∷ []) begun between) old now new refl
+    leads_then_leaves run_options seed (resting (i ∷ []) begun before) (resting (j ∷ []) begun between) (foul_stop why) old now new refl
     (subst (λ (n : ℕ). Leads run_options seed (resting (i ∷ []) begun n) (resting (j ∷ []) begun between) old now) (sym is)
     (subst (λ (n : ℕ). Leads run_options seed (resting (i ∷ []) begun mid.0) (resting (j ∷ []) begun n) old now) (sym on)
     (leads run_options seed begun i (requests P number mid message begun i next p may))))
     (later seed begun j (lands i p) (goes_on number mid begun reply i may))
 
 -- a request is not answered
-pub answers_break : (P : Item → Type 0) (number before : ℕ) (mid : Mid) (message : List ℕ) (old new : Option (List Event)) → before ≡ mid.0 → IsNextOf P mid message
-    → ((options : Options) (seed : List ℕ) (begun : List ℕ) (i : Item) → MayRequest number mid message begun i → Leaves options seed (resting (i ∷ []) begun mid.0) old new)
-    → (seed : List ℕ) (begun : List ℕ) (i : Item) → P i → MayGoOn number begun i → Leaves run_options seed (resting (i ∷ []) begun before) old new
-answers_break P number before mid message old new is next leaves seed begun i p may =
-    subst (λ (n : ℕ). Leaves run_options seed (resting (i ∷ []) begun n) old new) (sym is) (leaves run_options seed begun i (requests P number mid message begun i next p may))
+pub answers_break : (P : Item → Type 0) (number before : ℕ) (mid : Mid) (message : List ℕ) (foul : Bool) (old new : Option (List Event)) → before ≡ mid.0 → IsNextOf P mid message
+    → ((options : Options) (seed : List ℕ) (begun : List ℕ) (i : Item) → MayRequest number mid message begun i → Leaves options seed (resting (i ∷ []) begun mid.0) foul old new)
+    → (seed : List ℕ) (begun : List ℕ) (i : Item) → P i → MayGoOn number begun i → Leaves run_options seed (resting (i ∷ []) begun before) foul old new
+answers_break P number before mid message foul old new is next leaves seed begun i p may =
+    subst (λ (n : ℕ). Leaves run_options seed (resting (i ∷ []) begun n) foul old new) (sym is) (leaves run_options seed begun i (requests P number mid message begun i next p may))
 
 wish_at : (rest : Program) (wish : Wish) (k : Rep → Program) (fids : List Fid) (message : List ℕ) → rest ≡ Ask wish k → asked message ≡ Some (Asked.Share false (wish_of fids wish)) → IsWish rest fids message
 wish_at rest wish k fids message is asks = subst (λ (p : Program). IsWish p fids message) (sym is) asks

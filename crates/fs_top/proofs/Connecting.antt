@@ -1,11 +1,10 @@
 -- The connects of a run, event by event.
-use Rattle.std.proofs.Common.{rules, ◌≡◌, ◌⊎◌, inl, inr, ◌<◌, ◌≤◌, ℕ, zero, suc, ◌+◌, Bool, true, false, if◌then◌else◌, List, [], ◌∷◌, ◌++◌, refl, ap, sym, ◌∙◌, subst, append_assoc, append-nil, Result, Ok, Err, arith}
+use Rattle.std.proofs.Common.{◌≡◌, ◌⊎◌, inl, inr, ◌<◌, ℕ, zero, suc, ◌+◌, Bool, true, false, if◌then◌else◌, List, [], ◌∷◌, ◌++◌, refl, ap, sym, ◌∙◌, append_assoc, append-nil, Ok, Err, arith}
 use Rattle.smb_link.specs.declared.event.Event.{Event}
 use Rattle.smb_link.specs.declared.event.Event.TheVariants as event
 use Rattle.smb_link.specs.declared.mark.Mark.{Mark}
-use Rattle.smb_link.specs.declared.faults.LinkFail.{LinkFail}
 use Rattle.smb_link.specs.declared.faults.LinkFail.TheVariants as fail
-use Rattle.smb_link.specs.Story.{connect_events, ended_events, connect_cuts}
+use Rattle.smb_link.specs.Story.{connect_events, connect_cuts}
 use Rattle.smb_link.specs.Came.{Seen, Came}
 use Rattle.smb_link.proofs.CameLaws.{came_none, came_then}
 use Rattle.fs_core.specs.Course.{Does}

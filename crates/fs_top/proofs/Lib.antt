@@ -9,8 +9,11 @@ pub mod Once
 pub mod ByCountsLaws
 pub mod Examples
 mod Steps
+mod MountBodies
 pub mod Courses
 pub mod Exchanging
+pub mod Serving
+pub mod Completing
 pub mod Saying
 pub mod Scripted
 mod Mounting
@@ -18,9 +21,11 @@ mod Connecting
 mod Calling
 pub mod Talking
 mod Running
+pub mod CleanEnds
 mod SharePaths
 mod RunWords
 pub mod MountCourses
+pub mod MountFailures
 mod Coming
 mod Keeping
 mod Progressing

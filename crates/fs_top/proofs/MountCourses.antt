@@ -4,15 +4,16 @@ use Rattle.smb_link.specs.declared.event.Event.{Event}
 use Rattle.smb_mount.specs.declared.facts.Facts.{Facts}
 use Rattle.smb_mount.specs.declared.states.SetUp.TheVariants as set_up
 use Rattle.smb_mount.specs.Kept as kept
+use Rattle.fs_core.specs.Course.{Tally}
 use Rattle.fs_top.specs.MountCourse.{StepThen, Greets, SetsUp, Authenticates, ConnectsTree, AnswersChallenge, SetsUpSession, MountedBy}
 use Rattle.fs_top.specs.Course.{Stretch}
 use Rattle.fs_top.proofs.Courses.{taken_stretch, stretch_then}
 
 abbrev Course : Type 1
-Course = ℕ → ℕ → ℕ → List Event → Type 0
+Course = ℕ → Tally → Tally → List Event → Type 0
 
 abbrev IsStretch : Course → Type 0
-IsStretch So = (next a b : ℕ) (events : List Event) → So next a b events → Stretch a b [] events
+IsStretch So = (next : ℕ) (a b : Tally) (events : List Event) → So next a b events → Stretch a b [] events
 
 then_stretch : (Step Rest : Course) → IsStretch Step → IsStretch Rest → IsStretch (StepThen Step Rest)
 then_stretch Step Rest first last next a b events s =

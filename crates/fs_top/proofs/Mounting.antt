@@ -15,7 +15,7 @@ use Rattle.smb_link.specs.Story.{GainsByConnect}
 use Rattle.smb_mount.specs.declared.facts.Facts.{Facts}
 use Rattle.smb_mount.specs.Requests.{IsWritten, negotiate, negotiate_fields, dialects, session_setup, session_fields, tree_connect, tree_fields, unit_bytes, tree_disconnect, logoff, no_fields}
 use Rattle.fs_plain.specs.View.{no_view}
-use Rattle.fs_plain.specs.Moves.{Leads}
+use Rattle.fs_plain.specs.Moves.{Leads, Leaves}
 use Rattle.fs_plain.proofs.Leading.{leads_nowhere, leads_then, leads_shares, leads_join}
 use Rattle.fs_plain.proofs.Leaving.{leaves_now, leads_then_leaves, leads_refused}
 use Rattle.fs_core.specs.declared.part.Awaited.{Awaited}
@@ -24,7 +24,9 @@ use Rattle.fs_core.specs.Judged.{FinalWith, IsFinal}
 use Rattle.fs_core.specs.Exchange.{resting}
 use Rattle.fs_core.specs.Asking.{IsAsideBody, AskLeads}
 use Rattle.fs_core.proofs.Asides.{negotiate_aside, session_aside, tree_aside, disconnect_aside, logoff_aside}
-use Rattle.fs_top.specs.declared.run_end.End.{End}
+use Rattle.fs_top.specs.declared.run_end.End.TheVariants as end
+use Rattle.fs_top.specs.RunEndings.{end_of}
+use Rattle.fs_top.proofs.Steps.{end_through, end_foul}
 use Rattle.fs_top.specs.Runs.{RestsOrLeaves, Joins}
 
 by_head : (head : Result Head HeadFault) (request : Awaited) → FinalWith head request → IsOk head
@@ -37,14 +39,17 @@ final_head request part final = by_head (head_of part) request final
 
 -- a request that is answered
 pub ask_rests : (request : Request) (part : List ℕ) (before after : ℕ) (old new : Option (List Event)) → AskLeads request before (Ok part) old new → after ≡ before + 1
-    → IsAsideBody request.command request.body → RestsOrLeaves {X = List ℕ} {E = End} (Ok part) before after old new
+    → IsAsideBody request.command request.body → RestsOrLeaves {X = List ℕ} (Ok part) before after old new
 ask_rests request part before after old new asks is aside options seed items begun =
     subst (λ (n : ℕ). Leads options seed (resting items begun before) (resting items begun n) old new) (sym is) (asks.1 options seed items begun aside)
 
 -- a request that is not
-pub ask_leaves : (request : Request) (why : Stop) (e : End) (before after : ℕ) (old new : Option (List Event)) → AskLeads request before (Err why) old new
-    → IsAsideBody request.command request.body → RestsOrLeaves {X = List ℕ} {E = End} (Err e) before after old new
-ask_leaves request why e before after old new asks aside options seed items begun = asks options seed items begun aside
+pub ask_leaves : (request : Request) (why : Stop) (frames before after : ℕ) (old new : Option (List Event)) → AskLeads request before (Err why) old new
+    → IsAsideBody request.command request.body → RestsOrLeaves {X = List ℕ} (Err (end_of why frames)) before after old new
+ask_leaves request why frames before after old new asks aside = (
+  end_through why frames,
+  λ options seed items begun. subst (λ (t : Bool). Leaves options seed (resting items begun before) t old new) (sym (end_foul why frames)) (asks options seed items begun aside),
+)
 
 -- the five requests ask for something of the connection itself
 aside_as : (r : Request) (command : ℕ) → r.command ≡ command → IsAsideBody command r.body → IsAsideBody r.command r.body
@@ -112,18 +117,23 @@ breaks_then stands options seed now new gains =
     leads_then options seed no_view no_view no_view now gains.0 new (leads_shares options seed no_view now gains.0 gains.1)
     (leads_shares options seed no_view gains.0 new gains.2)
 
-pub tries_break : (stood before stands : Bool) (e : End) (old now new : Option (List Event)) → Tries stood before old now → GainsByConnect before stands (Err fail.NoMemory) now new
-    → Joins stood (Err e) old new
-tries_break stood before stands e old now new t gains none options seed =
-    let so = t.goes none in
-    leads_then_leaves options seed no_view no_view old new new refl
-    (leads_then options seed no_view no_view no_view old now new (so.1 options seed)
-    (breaks_then stands options seed now new (subst (λ (b : Bool). GainsByConnect b stands (Err fail.NoMemory) now new) so.0 gains)))
-    (leaves_now options seed no_view new)
+pub tries_break : (stood before stands : Bool) (old now new : Option (List Event)) → Tries stood before old now → GainsByConnect before stands (Err fail.NoMemory) now new
+    → Joins stood (Err end.Memory) old new
+tries_break stood before stands old now new t gains = (
+  refl,
+  λ none options seed.
+      let so = t.goes none in
+      leads_then_leaves options seed no_view no_view false old new new refl
+      (leads_then options seed no_view no_view no_view old now new (so.1 options seed)
+      (breaks_then stands options seed now new (subst (λ (b : Bool). GainsByConnect b stands (Err fail.NoMemory) now new) so.0 gains)))
+      (leaves_now options seed no_view new),
+)
 
-pub tries_end : (stood before : Bool) (e : End) (old now : Option (List Event)) → Tries stood before old now → Joins stood (Err e) old now
-tries_end stood before e old now t none options seed =
-    leads_then_leaves options seed no_view no_view old now now refl ((t.goes none).1 options seed) (leaves_now options seed no_view now)
+pub tries_end : (stood before : Bool) (many : ℕ) (old now : Option (List Event)) → Tries stood before old now → Joins stood (Err (end.Connects many)) old now
+tries_end stood before many old now t = (
+  refl,
+  λ none options seed. leads_then_leaves options seed no_view no_view false old now now refl ((t.goes none).1 options seed) (leaves_now options seed no_view now),
+)
 
 -- the two requests that end a mount
 pub leave_asks : (facts : Facts) (requests : List Request) (d e : Request) → requests ≡ tree_disconnect facts ∷ logoff facts ∷ [] → AllByRecursion (IsWritten 4 no_fields []) requests

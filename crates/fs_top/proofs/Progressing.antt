@@ -1,12 +1,12 @@
 -- A script is read and answered, one call after the other.
-use Rattle.std.proofs.Common.{rules, ◌≡◌, ◌⊎◌, inl, inr, ◌∙◌, refl, sym, ap, subst, ℕ, Bool, true, false, List, [], ◌∷◌, ◌++◌, append-nil, append_assoc, Option, Some, None, Result, Ok, Err}
+use Rattle.std.proofs.Common.{rules, ◌≡◌, inl, inr, ◌∙◌, refl, sym, ap, subst, ℕ, zero, suc, ◌+◌, arith, Bool, true, false, List, [], ◌∷◌, ◌++◌, length, append-nil, append_assoc, Option, Some, None, Result, Ok, Err}
 use Rattle.std.specs.Prelude.{MatchBool, IfSome, IsSome, OnOk, is_some, option_map}
 use Rattle.smb_link.specs.Count.{counted}
 use Rattle.fs_top.specs.declared.ahead.Ahead.{Ahead}
 use Rattle.fs_top.specs.declared.ahead.Asked.{Asked}
 use Rattle.fs_top.specs.declared.ahead.Over as overs
 use Rattle.fs_top.specs.declared.ahead.Over.TheVariants as over
-use Rattle.fs_top.specs.Script.{Coming, to_come, coming_held, coming_ahead, held_then, unless_over, is_failed_now, Keeps, IsHeldOrOver, greatest, over_of}
+use Rattle.fs_top.specs.Script.{Coming, to_come, coming_ahead, held_then, unless_over, is_failed_now, IsHeldOrOver, over_of, greatest}
 use Rattle.fs_top.specs.Runs.{IsAhead}
 use Rattle.fs_top.specs.Progress.{Reads, ReadsOn, behind_calls, IsFront, is_source, Progress, ReadTo}
 use Rattle.fs_top.proofs.Keeping.{keeps_none, keeps_then}
@@ -172,9 +172,9 @@ progress_end script f asked (over.Line number) r held over_is p =
     inl (subst (λ (s : Option Coming). IfSome s (λ s. (s.calls ≡ asked) × (s.over ≡ over.Line number))) (sym so.0) (nothing_held asked (over.Line number) r.left r.ahead held over_is), so.1)
 
 -- or as many were answered as there are numbers
-pub progress_last : (script : Option Coming) (f : ℕ) (asked : List Asked) (r : Reads) → (IsSome r.ahead.held → r.ahead.over ≡ None) → Progress script f asked r
-    → ReadTo (over_of r.ahead.over) script f r.faults asked
-progress_last script f asked r more p = by r.ahead.over r.ahead.held refl refl
+pub progress_last : (script : Option Coming) (f : ℕ) (asked : List Asked) (r : Reads) → (IsSome r.ahead.held → r.ahead.over ≡ None)
+    → (r.ahead.over ≡ None → length asked ≡ greatest) → Progress script f asked r → ReadTo (over_of r.ahead.over) script f r.faults asked
+progress_last script f asked r more many p = by r.ahead.over r.ahead.held refl refl
   where
     no_some : (o : Option overs.Over) (why : overs.Over) → o ≡ Some why → o ≡ None → ⊥
     no_some o why is none = no (sym is ∙ none)
@@ -183,7 +183,7 @@ progress_last script f asked r more p = by r.ahead.over r.ahead.held refl refl
         no same = search rules
 
     by : (o : Option overs.Over) (h : Option Asked) → r.ahead.over ≡ o → r.ahead.held ≡ h → ReadTo (over_of o) script f r.faults asked
-    by None h over_is held = inr (refl, progress_front script f asked r p)
+    by None h over_is held = inr (refl, many over_is, progress_front script f asked r p)
     by (Some why) None over_is held = progress_end script f asked why r held over_is p
     by (Some why) (Some x) over_is held = absurd (no_some r.ahead.over why over_is (more (subst IsSome (sym held) refl)))
 
@@ -193,6 +193,29 @@ none_held h some none = no (ap is_some none ∙ some)
   where
     no : false ≡ true → ⊥
     no is = search rules
+
+-- more may come only where a call is held
+pub none_more : (a : Ahead) → IsHeldOrOver a → None ≡ a.held → a.over ≡ None → ⊥
+none_more a (inl some) none over_is = none_held a.held some none
+none_more a (inr some) none over_is = no (ap is_some (sym over_is) ∙ some)
+  where
+    no : false ≡ true → ⊥
+    no is = search rules
+
+-- so many calls of a script were taken
+abbrev pub Took : Option Coming → ℕ → ℕ → Reads → List Asked → Type 0
+Took script f many now asked = Progress script f asked now × (length asked ≡ many)
+
+pub one_longer : (asked : List Asked) (x : Asked) (n : ℕ) → length asked ≡ n → length (asked ++ x ∷ []) ≡ n + 1
+one_longer [] x n is = omega (arith, is)
+one_longer (y ∷ asked) x zero is = absurd (cc)
+one_longer (y ∷ asked) x (suc n) is = more (length (asked ++ x ∷ [])) n (one_longer asked x n (less (length asked) n is))
+  where
+    less : (a b : ℕ) → suc a ≡ suc b → a ≡ b
+    less a b is = omega (arith, is)
+
+    more : (a n : ℕ) → a ≡ n + 1 → suc a ≡ suc n + 1
+    more a n is = omega (arith, is)
 
 -- where a call is held more may come
 pub held_more : (last : ℕ) (a : Ahead) → IsAhead last a → IsSome a.held → a.over ≡ None
@@ -213,5 +236,5 @@ all_front asked why (Some s) all = ([], all.0 ∙ sym (append-nil asked))
 pub read_front : (why : overs.Over) (script : Option Coming) (f f' : ℕ) (asked : List Asked) → ReadTo why script f f' asked → IfSome script (IsFront asked)
 read_front over.End script f f' asked so = all_front asked over.End script so.0
 read_front (over.Line number) script f f' asked (inl so) = all_front asked (over.Line number) script so.0
-read_front (over.Line number) script f f' asked (inr so) = so.1
+read_front (over.Line number) script f f' asked (inr so) = so.2
 read_front over.Source script f f' asked so = so.0

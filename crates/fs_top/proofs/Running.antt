@@ -11,18 +11,29 @@ use Rattle.smb_link.specs.Story.{Gains}
 use Rattle.smb_link.specs.Program.{of_errno}
 use Rattle.smb_link.specs.Stat.{stat_program}
 use Rattle.fs_plain.specs.Answered.{ended_by, is_not_compared}
-use Rattle.fs_plain.specs.Replay.{Running}
+use Rattle.fs_plain.specs.CleanEnd.{Cleared, share_after, replay_after}
+use Rattle.fs_plain.specs.Honest.{IsHonest, start}
+use Rattle.fs_plain.specs.Replay.{Running, Replay, at_first}
 use Rattle.fs_plain.specs.View.{Item, View, new_item, items_but, item_with, no_view}
 use Rattle.fs_plain.specs.Moves.{run_of, Leads, Leaves, Closes, PlainAnswers}
 use Rattle.fs_plain.proofs.Leading.{leads_nowhere, leads_then, leads_begin, leads_answer}
-use Rattle.fs_plain.proofs.Leaving.{leaves_now, leaves_shares, gains_none, closes_shares, closes_answer, not_compared_fault, not_compared_loss, going_start, over_plain}
+use Rattle.fs_plain.proofs.Clearing.{related_cleared}
+use Rattle.fs_plain.proofs.Leaving.{leaves_now, leaves_shares, gains_none, closes_shares, closes_answer, not_compared_fault, not_compared_loss, going_start, going_over, over_plain, over_after}
 use Rattle.fs_core.specs.Exchange.{resting}
 use Rattle.fs_top.specs.declared.ahead.Ahead.{Ahead}
 use Rattle.fs_top.specs.declared.ahead.Asked.{Asked}
 use Rattle.fs_top.specs.declared.run_end.End.{End}
 use Rattle.fs_top.specs.declared.run_end.End.TheVariants as end
 use Rattle.fs_core.specs.declared.wire.Stop.{Stop}
-use Rattle.fs_top.specs.Runs.{run_options, StaysOrLeaves, RestsOrLeaves, IsAhead, MayGoOn, IsSaid, Answers, IsStat, Finishes, IsUpTo, status_of, AnswersLine, AnswerTold, GivesUp, errno_by}
+use Rattle.fs_core.specs.Foul.{foul_stop}
+use Rattle.share_spec.specs.declared.share.Share.{Share}
+use Rattle.fs_types.specs.declared.options.Options.{Options}
+use Rattle.fs_top.specs.declared.ahead.Over.{Over}
+use Rattle.fs_top.specs.declared.ahead.Over.TheVariants as overs
+use Rattle.fs_top.specs.Script.{end_by}
+use Rattle.fs_top.specs.RunEndings.{end_of}
+use Rattle.fs_top.proofs.Steps.{end_through, end_foul}
+use Rattle.fs_top.specs.Runs.{run_options, foul_end, is_through, StaysOrLeaves, RestsOrLeaves, IsAhead, MayGoOn, IsSaid, Answers, IsStat, IsNever, AtEnd, Finishes, IsUpTo, status_of, AnswersLine, AnswerTold, GivesUp, errno_by}
 
 itself : (n : ℕ) → (n == n) ≡ true
 itself n = search rules
@@ -41,54 +52,80 @@ ended_too cause status is = by (status == cause) (status == 8) (status == 3) is
     by false false true is = refl
     by false false false is = is
 
+-- at an end before the script's own, which is not foul, nothing is said of the shares
+plain_end : (e : End) → is_through e ≡ false → foul_end e ≡ false → (s : Share) (r : Replay) → AtEnd e s r
+plain_end end.Done through pure s r = absurd (no through)
+  where
+    no : true ≡ false → ⊥
+    no is = search rules
+plain_end (end.Line number) through pure s r = absurd (no through)
+  where
+    no : true ≡ false → ⊥
+    no is = search rules
+plain_end end.Source through pure s r = absurd (no through)
+  where
+    no : true ≡ false → ⊥
+    no is = search rules
+plain_end (end.Frame number kind) through pure s r = subst IsNever (sym pure) (record {})
+plain_end end.Memory through pure s r = record {}
+plain_end (end.Mount fault) through pure s r = record {}
+plain_end (end.Connects number) through pure s r = record {}
+plain_end end.Cuts through pure s r = record {}
+plain_end end.Sink through pure s r = record {}
+plain_end end.Frames through pure s r = record {}
+
 -- a run that ends is over
-pub finishes_leaves : (seed : List ℕ) (status : ℕ) (v : View) (old new : Option (List Event)) → Leaves run_options seed v old new → Finishes seed status v old new
-finishes_leaves seed status v old new leaves = record {
-  on = λ begin going. (closes_shares run_options seed (map (λ (i : Item). i.number) v.items) (ended_by status) new new (gains_none new)).on begin (leaves.on begin going);
+pub finishes_leaves : (seed : List ℕ) (e : End) (v : View) (old new : Option (List Event)) → is_through e ≡ false → Leaves run_options seed v (foul_end e) old new → Finishes seed e v old new
+finishes_leaves seed e v old new through leaves = record {
+  on = λ begin going. (closes_shares run_options seed (map (λ (i : Item). i.number) v.items) (foul_end e) (ended_by (status_of e)) (AtEnd e) new new (gains_none new) (plain_end e through)).on begin
+      (leaves.on begin going);
 }
 
-pub finishes_closes : (seed : List ℕ) (status : ℕ) (v : View) (old now new : Option (List Event)) → Leaves run_options seed v old now
-    → Closes run_options seed (map (λ (i : Item). i.number) v.items) (ended_by status) now new → Finishes seed status v old new
-finishes_closes seed status v old now new leaves closes = record { on = λ begin going. closes.on begin (leaves.on begin going) }
+pub finishes_closes : (seed : List ℕ) (e : End) (v : View) (foul : Bool) (old now new : Option (List Event)) → Leaves run_options seed v foul old now
+    → Closes run_options seed (map (λ (i : Item). i.number) v.items) foul (ended_by (status_of e)) (AtEnd e) now new → Finishes seed e v old new
+finishes_closes seed e v foul old now new leaves closes = record { on = λ begin going. closes.on begin (leaves.on begin going) }
 
-pub leads_finishes : (seed : List ℕ) (status : ℕ) (v w : View) (old now new : Option (List Event)) → Leads run_options seed v w old now → Finishes seed status w now new → Finishes seed status v old new
-leads_finishes seed status v w old now new leads finishes = record { on = λ begin going. finishes.on begin (leads.on begin going) }
+pub leads_finishes : (seed : List ℕ) (e : End) (v w : View) (old now new : Option (List Event)) → Leads run_options seed v w old now → Finishes seed e w now new → Finishes seed e v old new
+leads_finishes seed e v w old now new leads finishes = record { on = λ begin going. finishes.on begin (leads.on begin going) }
 
 -- the call that is unanswered is answered with the error number of the cause
-pub gives_fault : (number : ℕ) (e : End) (n k : ℕ) (old new : Option (List Event)) → ended_by (status_of e) ≡ ended_by 5 → Gains (event.Marked (mark.Answer number (of_errno 71)) ∷ []) old new
-    → GivesUp number e old new
-gives_fault number e n k old new is gains seed numbers has =
-    subst (λ (f : ℕ → Bool). Closes run_options seed numbers f old new) (sym is)
-    (closes_answer run_options seed numbers (ended_by 5) number (of_errno 71) old new gains has (not_compared_fault run_options seed))
+told_by : (number : ℕ) (a : Answer) (cause e : End) (old new : Option (List Event)) → ((seed : List ℕ) (status : ℕ) → ended_by (status_of e) status ≡ true → (c : Running) → is_not_compared (run_of run_options seed status) c a ≡ true)
+    → (is_through cause ≡ false → foul_end cause ≡ false → (s : Share) (r : Replay) → AtEnd e s r)
+    → Gains (event.Marked (mark.Answer number a) ∷ []) old new → GivesUp number cause e old new
+told_by number a cause e old new none plain gains through seed numbers has =
+    closes_answer run_options seed numbers (foul_end cause) (ended_by (status_of e)) (AtEnd e) number a old new gains has (none seed) (plain through)
 
-told_by : (number : ℕ) (a : Answer) (e : End) (old new : Option (List Event)) → ((seed : List ℕ) (status : ℕ) → ended_by (status_of e) status ≡ true → (c : Running) → is_not_compared (run_of run_options seed status) c a ≡ true)
-    → Gains (event.Marked (mark.Answer number a) ∷ []) old new → GivesUp number e old new
-told_by number a e old new none gains seed numbers has =
-    closes_answer run_options seed numbers (ended_by (status_of e)) number a old new gains has (none seed)
+-- or it is not
+pub gives_nothing : (number : ℕ) (e : End) (old new : Option (List Event)) → Gains [] old new → GivesUp number e e old new
+gives_nothing number e old new gains through seed numbers has =
+    closes_shares run_options seed numbers (foul_end e) (ended_by (status_of e)) (AtEnd e) old new gains (plain_end e through)
 
-pub gives_nothing : (number : ℕ) (e : End) (old new : Option (List Event)) → Gains [] old new → GivesUp number e old new
-gives_nothing number e old new gains seed numbers has = closes_shares run_options seed numbers (ended_by (status_of e)) old new gains
+-- for want of memory
+gives_memory : (number : ℕ) (cause e : End) (old new : Option (List Event)) → (e ≡ end.Memory) × Gains [] old new → GivesUp number cause e old new
+gives_memory number cause e old new told =
+    subst (λ (x : End). GivesUp number cause x old new) (sym told.0)
+    (λ through seed numbers has. closes_shares run_options seed numbers (foul_end cause) (ended_by 3) (AtEnd end.Memory) old new told.1 (λ pure s r. record {}))
 
 -- what comes of the answer with which a run gives up
 abbrev pub given : End → Result (Unit {0}) End → End
 given e (Ok x) = e
 given e (Err other) = other
 
-gives_by : (number errno : ℕ) (e : End) (result : Result (Unit {0}) End) (old new : Option (List Event))
-    → ((seed : List ℕ) (status : ℕ) → ended_by (status_of e) status ≡ true → (c : Running) → is_not_compared (run_of run_options seed status) c (of_errno errno) ≡ true)
+gives_by : (number errno : ℕ) (cause : End) (result : Result (Unit {0}) End) (old new : Option (List Event))
+    → ((seed : List ℕ) (status : ℕ) → ended_by (status_of cause) status ≡ true → (c : Running) → is_not_compared (run_of run_options seed status) c (of_errno errno) ≡ true)
     → ((seed : List ℕ) (status : ℕ) → ended_by 8 status ≡ true → (c : Running) → is_not_compared (run_of run_options seed status) c (of_errno errno) ≡ true)
-    → AnswerTold number (of_errno errno) result old new → GivesUp number (given e result) old new
-gives_by number errno e (Ok x) old new none none' told = told_by number (of_errno errno) e old new none told
-gives_by number errno e (Err end.Sink) old new none none' told = told_by number (of_errno errno) end.Sink old new none' told
-gives_by number errno e (Err end.Done) old new none none' told = gives_nothing number end.Done old new told.1
-gives_by number errno e (Err (end.Line n)) old new none none' told = gives_nothing number (end.Line n) old new told.1
-gives_by number errno e (Err end.Memory) old new none none' told = gives_nothing number end.Memory old new told.1
-gives_by number errno e (Err (end.Mount fault)) old new none none' told = gives_nothing number (end.Mount fault) old new told.1
-gives_by number errno e (Err (end.Frame n kind)) old new none none' told = gives_nothing number (end.Frame n kind) old new told.1
-gives_by number errno e (Err (end.Connects n)) old new none none' told = gives_nothing number (end.Connects n) old new told.1
-gives_by number errno e (Err end.Cuts) old new none none' told = gives_nothing number end.Cuts old new told.1
-gives_by number errno e (Err end.Source) old new none none' told = gives_nothing number end.Source old new told.1
-gives_by number errno e (Err end.Frames) old new none none' told = gives_nothing number end.Frames old new told.1
+    → AnswerTold number (of_errno errno) result old new → GivesUp number cause (given cause result) old new
+gives_by number errno cause (Ok x) old new none none' told = told_by number (of_errno errno) cause cause old new none (plain_end cause) told
+gives_by number errno cause (Err end.Sink) old new none none' told = told_by number (of_errno errno) cause end.Sink old new none' (λ through pure s r. record {}) told
+gives_by number errno cause (Err end.Done) old new none none' told = gives_memory number cause end.Done old new told
+gives_by number errno cause (Err (end.Line n)) old new none none' told = gives_memory number cause (end.Line n) old new told
+gives_by number errno cause (Err end.Memory) old new none none' told = gives_memory number cause end.Memory old new told
+gives_by number errno cause (Err (end.Mount fault)) old new none none' told = gives_memory number cause (end.Mount fault) old new told
+gives_by number errno cause (Err (end.Frame n kind)) old new none none' told = gives_memory number cause (end.Frame n kind) old new told
+gives_by number errno cause (Err (end.Connects n)) old new none none' told = gives_memory number cause (end.Connects n) old new told
+gives_by number errno cause (Err end.Cuts) old new none none' told = gives_memory number cause end.Cuts old new told
+gives_by number errno cause (Err end.Source) old new none none' told = gives_memory number cause end.Source old new told
+gives_by number errno cause (Err end.Frames) old new none none' told = gives_memory number cause end.Frames old new told
 
 same_some : (a b : ℕ) → Some a ≡ Some b → a ≡ b
 same_some a b is = search rules
@@ -96,14 +133,14 @@ same_some a b is = search rules
 never : (n : ℕ) → None ≡ Some n → ⊥
 never n is = search rules
 
-pub gives : (number errno : ℕ) (e : End) (result : Result (Unit {0}) End) (old new : Option (List Event)) → errno_by e ≡ Some errno
-    → AnswerTold number (of_errno errno) result old new → GivesUp number (given e result) old new
+pub gives : (number errno : ℕ) (cause : End) (result : Result (Unit {0}) End) (old new : Option (List Event)) → errno_by cause ≡ Some errno
+    → AnswerTold number (of_errno errno) result old new → GivesUp number cause (given cause result) old new
 gives number errno (end.Frame n kind) result old new is told =
-    subst (λ (k : ℕ). AnswerTold number (of_errno k) result old new → GivesUp number (given (end.Frame n kind) result) old new) (same_some 71 errno is)
+    subst (λ (k : ℕ). AnswerTold number (of_errno k) result old new → GivesUp number (end.Frame n kind) (given (end.Frame n kind) result) old new) (same_some 71 errno is)
     (gives_by number 71 (end.Frame n kind) result old new (λ seed status may. not_compared_fault run_options seed status may)
     (λ seed status may. not_compared_fault run_options seed status (ended_too 5 status may))) told
 gives number errno end.Cuts result old new is told =
-    subst (λ (k : ℕ). AnswerTold number (of_errno k) result old new → GivesUp number (given end.Cuts result) old new) (same_some 112 errno is)
+    subst (λ (k : ℕ). AnswerTold number (of_errno k) result old new → GivesUp number end.Cuts (given end.Cuts result) old new) (same_some 112 errno is)
     (gives_by number 112 end.Cuts result old new (λ seed status may. not_compared_loss run_options seed status may)
     (λ seed status may. not_compared_loss run_options seed status (ended_too 6 status may))) told
 gives number errno end.Done result old new is told = absurd (never errno is)
@@ -200,7 +237,7 @@ answers_one seed number a j begun after old new said gains =
 
 -- as far as its answer
 up_to_answer : (seed : List ℕ) (asked : Asked) (a : Answer) (last : ℕ) (begun : List ℕ) (before after : ℕ) (old now new : Option (List Event)) → IsUpTo last begun → last < asked.number
-    → Gains (event.Marked (mark.Begin asked.number asked.lane (call.Stat asked.path)) ∷ []) old now → Answers {E = Stop} (IsStat asked.path) asked.number (Ok a) before after now new
+    → Gains (event.Marked (mark.Begin asked.number asked.lane (call.Stat asked.path)) ∷ []) old now → Answers (IsStat asked.path) asked.number (Ok a) before after now new
     → (j : Item) × IsSaid asked.number a j × Leads run_options seed (resting [] begun before) (resting (j ∷ []) (asked.number ∷ begun) after) old new
 up_to_answer seed asked a last begun before after old now new up less gains answers =
     let end = answers seed (asked.number ∷ begun) (started asked) (refl, refl) (started_goes asked begun) in (
@@ -211,56 +248,59 @@ up_to_answer seed asked a last begun before after old now new up less gains answ
     )
 
 told_line : (seed : List ℕ) (asked : Asked) (a : Answer) (last : ℕ) (begun : List ℕ) (before after : ℕ) (old now then_ new : Option (List Event)) → IsUpTo last begun → last < asked.number
-    → Gains (event.Marked (mark.Begin asked.number asked.lane (call.Stat asked.path)) ∷ []) old now → Answers {E = Stop} (IsStat asked.path) asked.number (Ok a) before after now then_
+    → Gains (event.Marked (mark.Begin asked.number asked.lane (call.Stat asked.path)) ∷ []) old now → Answers (IsStat asked.path) asked.number (Ok a) before after now then_
     → Gains (event.Marked (mark.Answer asked.number a) ∷ []) then_ new → Leads run_options seed (resting [] begun before) (resting [] (asked.number ∷ begun) after) old new
 told_line seed asked a last begun before after old now then_ new up less gains answers told =
     let at = up_to_answer seed asked a last begun before after old now then_ up less gains answers in
     leads_then run_options seed (resting [] begun before) (resting (at.0 ∷ []) (asked.number ∷ begun) after) (resting [] (asked.number ∷ begun) after) old then_ new
     at.2 (answers_one seed asked.number a at.0 (asked.number ∷ begun) after then_ new at.1 told)
 
-untold_line : (seed : List ℕ) (asked : Asked) (a : Answer) (e : End) (last : ℕ) (begun : List ℕ) (before after : ℕ) (old now then_ new : Option (List Event)) → IsUpTo last begun → last < asked.number
-    → Gains (event.Marked (mark.Begin asked.number asked.lane (call.Stat asked.path)) ∷ []) old now → Answers {E = Stop} (IsStat asked.path) asked.number (Ok a) before after now then_
-    → Gains [] then_ new → Finishes seed (status_of e) (resting [] begun before) old new
-untold_line seed asked a e last begun before after old now then_ new up less gains answers told =
+untold_line : (seed : List ℕ) (asked : Asked) (a : Answer) (e : End) → e ≡ end.Memory → (last : ℕ) (begun : List ℕ) (before after : ℕ) (old now then_ new : Option (List Event)) → IsUpTo last begun → last < asked.number
+    → Gains (event.Marked (mark.Begin asked.number asked.lane (call.Stat asked.path)) ∷ []) old now → Answers (IsStat asked.path) asked.number (Ok a) before after now then_
+    → Gains [] then_ new → Finishes seed e (resting [] begun before) old new
+untold_line seed asked a e is last begun before after old now then_ new up less gains answers told =
     let at = up_to_answer seed asked a last begun before after old now then_ up less gains answers in
-    leads_finishes seed (status_of e) (resting [] begun before) (resting (at.0 ∷ []) (asked.number ∷ begun) after) old then_ new at.2
-    (finishes_leaves seed (status_of e) (resting (at.0 ∷ []) (asked.number ∷ begun) after) then_ new (leaves_shares run_options seed (resting (at.0 ∷ []) (asked.number ∷ begun) after) then_ new told))
+    subst (λ (x : End). Finishes seed x (resting [] begun before) old new) (sym is)
+    (leads_finishes seed end.Memory (resting [] begun before) (resting (at.0 ∷ []) (asked.number ∷ begun) after) old then_ new at.2
+    (finishes_leaves seed end.Memory (resting (at.0 ∷ []) (asked.number ∷ begun) after) then_ new refl (leaves_shares run_options seed (resting (at.0 ∷ []) (asked.number ∷ begun) after) then_ new told)))
 
 -- it is begun, answered, and its answer is told
 pub line_told : (asked : Asked) (a : Answer) (result : Result (Unit {0}) End) (before after : ℕ) (old now then_ new : Option (List Event))
-    → Gains (event.Marked (mark.Begin asked.number asked.lane (call.Stat asked.path)) ∷ []) old now → Answers {E = Stop} (IsStat asked.path) asked.number (Ok a) before after now then_
+    → Gains (event.Marked (mark.Begin asked.number asked.lane (call.Stat asked.path)) ∷ []) old now → Answers (IsStat asked.path) asked.number (Ok a) before after now then_
     → AnswerTold asked.number a result then_ new → AnswersLine asked.number result before after old new
 line_told asked a (Ok x) before after old now then_ new gains answers told = λ seed last begun up less.
     told_line seed asked a last begun before after old now then_ new up less gains answers told
 line_told asked a (Err end.Sink) before after old now then_ new gains answers told = λ seed last begun up less.
-    leads_finishes seed 8 (resting [] begun before) (resting [] (asked.number ∷ begun) after) old new new
+    leads_finishes seed end.Sink (resting [] begun before) (resting [] (asked.number ∷ begun) after) old new new
     (told_line seed asked a last begun before after old now then_ new up less gains answers told)
-    (finishes_leaves seed 8 (resting [] (asked.number ∷ begun) after) new new (leaves_now run_options seed (resting [] (asked.number ∷ begun) after) new))
-line_told asked a (Err end.Done) before after old now then_ new gains answers told = λ seed last begun up less. untold_line seed asked a end.Done last begun before after old now then_ new up less gains answers told.1
-line_told asked a (Err (end.Line n)) before after old now then_ new gains answers told = λ seed last begun up less. untold_line seed asked a (end.Line n) last begun before after old now then_ new up less gains answers told.1
-line_told asked a (Err end.Memory) before after old now then_ new gains answers told = λ seed last begun up less. untold_line seed asked a end.Memory last begun before after old now then_ new up less gains answers told.1
-line_told asked a (Err (end.Mount fault)) before after old now then_ new gains answers told = λ seed last begun up less. untold_line seed asked a (end.Mount fault) last begun before after old now then_ new up less gains answers told.1
-line_told asked a (Err (end.Frame n kind)) before after old now then_ new gains answers told = λ seed last begun up less. untold_line seed asked a (end.Frame n kind) last begun before after old now then_ new up less gains answers told.1
-line_told asked a (Err (end.Connects n)) before after old now then_ new gains answers told = λ seed last begun up less. untold_line seed asked a (end.Connects n) last begun before after old now then_ new up less gains answers told.1
-line_told asked a (Err end.Cuts) before after old now then_ new gains answers told = λ seed last begun up less. untold_line seed asked a end.Cuts last begun before after old now then_ new up less gains answers told.1
-line_told asked a (Err end.Source) before after old now then_ new gains answers told = λ seed last begun up less. untold_line seed asked a end.Source last begun before after old now then_ new up less gains answers told.1
-line_told asked a (Err end.Frames) before after old now then_ new gains answers told = λ seed last begun up less. untold_line seed asked a end.Frames last begun before after old now then_ new up less gains answers told.1
+    (finishes_leaves seed end.Sink (resting [] (asked.number ∷ begun) after) new new refl (leaves_now run_options seed (resting [] (asked.number ∷ begun) after) new))
+line_told asked a (Err end.Done) before after old now then_ new gains answers told = λ seed last begun up less. untold_line seed asked a end.Done told.0 last begun before after old now then_ new up less gains answers told.1
+line_told asked a (Err (end.Line n)) before after old now then_ new gains answers told = λ seed last begun up less. untold_line seed asked a (end.Line n) told.0 last begun before after old now then_ new up less gains answers told.1
+line_told asked a (Err end.Memory) before after old now then_ new gains answers told = λ seed last begun up less. untold_line seed asked a end.Memory told.0 last begun before after old now then_ new up less gains answers told.1
+line_told asked a (Err (end.Mount fault)) before after old now then_ new gains answers told = λ seed last begun up less. untold_line seed asked a (end.Mount fault) told.0 last begun before after old now then_ new up less gains answers told.1
+line_told asked a (Err (end.Frame n kind)) before after old now then_ new gains answers told = λ seed last begun up less. untold_line seed asked a (end.Frame n kind) told.0 last begun before after old now then_ new up less gains answers told.1
+line_told asked a (Err (end.Connects n)) before after old now then_ new gains answers told = λ seed last begun up less. untold_line seed asked a (end.Connects n) told.0 last begun before after old now then_ new up less gains answers told.1
+line_told asked a (Err end.Cuts) before after old now then_ new gains answers told = λ seed last begun up less. untold_line seed asked a end.Cuts told.0 last begun before after old now then_ new up less gains answers told.1
+line_told asked a (Err end.Source) before after old now then_ new gains answers told = λ seed last begun up less. untold_line seed asked a end.Source told.0 last begun before after old now then_ new up less gains answers told.1
+line_told asked a (Err end.Frames) before after old now then_ new gains answers told = λ seed last begun up less. untold_line seed asked a end.Frames told.0 last begun before after old now then_ new up less gains answers told.1
 
 -- it is begun, and the run gives up
-pub line_given_up : (asked : Asked) (why : Stop) (e : End) (before after : ℕ) (old now then_ new : Option (List Event))
+pub line_given_up : (asked : Asked) (why : Stop) (frames : ℕ) (e : End) (before after : ℕ) (old now then_ new : Option (List Event))
     → Gains (event.Marked (mark.Begin asked.number asked.lane (call.Stat asked.path)) ∷ []) old now → Answers (IsStat asked.path) asked.number (Err why) before after now then_
-    → GivesUp asked.number e then_ new → AnswersLine asked.number (Err e) before after old new
-line_given_up asked why e before after old now then_ new gains answers given_up seed last begun up less =
-    leads_finishes seed (status_of e) (resting [] begun before) (resting (started asked ∷ []) (asked.number ∷ begun) before) old now new
+    → GivesUp asked.number (end_of why frames) e then_ new → AnswersLine asked.number (Err e) before after old new
+line_given_up asked why frames e before after old now then_ new gains answers given_up seed last begun up less =
+    let numbers : List ℕ = asked.number ∷ [] in
+    leads_finishes seed e (resting [] begun before) (resting (started asked ∷ []) (asked.number ∷ begun) before) old now new
     (begins seed asked last begun before old now up less gains)
-    (finishes_closes seed (status_of e) (resting (started asked ∷ []) (asked.number ∷ begun) before) now then_ new
+    (finishes_closes seed e (resting (started asked ∷ []) (asked.number ∷ begun) before) (foul_stop why) now then_ new
     (answers seed (asked.number ∷ begun) (started asked) (refl, refl) (started_goes asked begun))
-    (given_up seed (asked.number ∷ []) (ap (λ (t : Bool). t || false) (itself asked.number))))
+    (subst (λ (t : Bool). Closes run_options seed numbers t (ended_by (status_of e)) (AtEnd e) then_ new) (end_foul why frames)
+    (given_up (end_through why frames) seed numbers (ap (λ (t : Bool). t || false) (itself asked.number)))))
 
 -- it is not begun
-pub line_unbegun : (asked : Asked) (e : End) (before after : ℕ) (old new : Option (List Event)) → Gains [] old new → AnswersLine asked.number (Err e) before after old new
-line_unbegun asked e before after old new gains seed last begun up less =
-    finishes_leaves seed (status_of e) (resting [] begun before) old new (leaves_shares run_options seed (resting [] begun before) old new gains)
+pub line_unbegun : (asked : Asked) (before after : ℕ) (old new : Option (List Event)) → Gains [] old new → AnswersLine asked.number (Err end.Memory) before after old new
+line_unbegun asked before after old new gains seed last begun up less =
+    finishes_leaves seed end.Memory (resting [] begun before) old new refl (leaves_shares run_options seed (resting [] begun before) old new gains)
 
 -- the lines so far
 pub record Lines (before : ℕ) (now_next : ℕ) (a : Ahead) (old now : Option (List Event)) : Type 0 where
@@ -299,18 +339,18 @@ lines_on before next after a b c asked old now mid new l kept looks takes answer
 pub lines_fail : (before next after : ℕ) (a b : Ahead) (asked : Asked) (e : End) (old now mid new : Option (List Event)) → (l : Lines before next a old now)
     → ((last : ℕ) → IsAhead last a → IsAhead last b)
     → StaysOrLeaves {X = Unit {0}} {E = End} (Ok tt) now mid → ((last : ℕ) → IsAhead last b → last < asked.number)
-    → AnswersLine asked.number (Err e) next after mid new → (seed : List ℕ) → Finishes seed (status_of e) (resting [] [] before) old new
+    → AnswersLine asked.number (Err e) next after mid new → (seed : List ℕ) → Finishes seed e (resting [] [] before) old new
 lines_fail before next after a b asked e old now mid new l kept looks takes answers seed =
-    leads_finishes seed (status_of e) (resting [] [] before) (resting [] l.begun next) old mid new
+    leads_finishes seed e (resting [] [] before) (resting [] l.begun next) old mid new
     (leads_then run_options seed (resting [] [] before) (resting [] l.begun next) (resting [] l.begun next) old now mid (l.leads seed) (looks run_options seed (resting [] l.begun next)))
     (answers seed l.last l.begun l.up_to (takes l.last (kept l.last l.ahead)))
 
 -- or memory does
-pub lines_break : (before next : ℕ) (a : Ahead) (e : End) (old now new : Option (List Event)) → Lines before next a old now
-    → StaysOrLeaves {X = Unit {0}} {E = End} (Err e) now new → (seed : List ℕ) → Finishes seed (status_of e) (resting [] [] before) old new
-lines_break before next a e old now new l breaks seed =
-    leads_finishes seed (status_of e) (resting [] [] before) (resting [] l.begun next) old now new (l.leads seed)
-    (finishes_leaves seed (status_of e) (resting [] l.begun next) now new (breaks run_options seed (resting [] l.begun next)))
+pub lines_break : (before next : ℕ) (a : Ahead) (old now new : Option (List Event)) → Lines before next a old now
+    → ((options : Options) (seed : List ℕ) (v : View) → Leaves options seed v false now new) → (seed : List ℕ) → Finishes seed end.Memory (resting [] [] before) old new
+lines_break before next a old now new l breaks seed =
+    leads_finishes seed end.Memory (resting [] [] before) (resting [] l.begun next) old now new (l.leads seed)
+    (finishes_leaves seed end.Memory (resting [] l.begun next) now new refl (breaks run_options seed (resting [] l.begun next)))
 
 -- or there are no more
 pub lines_end : (before next : ℕ) (a : Ahead) (old now new : Option (List Event)) → (l : Lines before next a old now) → StaysOrLeaves {X = Unit {0}} {E = End} (Ok tt) now new
@@ -320,23 +360,44 @@ lines_end before next a old now new l looks seed = (
   leads_then run_options seed (resting [] [] before) (resting [] l.begun next) (resting [] l.begun next) old now new (l.leads seed) (looks run_options seed (resting [] l.begun next)),
 )
 
--- the share is left
-pub left_after : (before next after : ℕ) (status : ℕ) (seed : List ℕ) (old now new : Option (List Event)) → ((seed : List ℕ) → (begun : List ℕ) × Leads run_options seed (resting [] [] before) (resting [] begun next) old now)
-    → RestsOrLeaves {X = Unit {0}} {E = End} (Ok tt) next after now new → Finishes seed status (resting [] [] before) old new
-left_after before next after status seed old now new all leaves =
+-- the share is left, and so it is as the plain client leaves it
+cleared_at : (over : Over) (s : Share) (r : Replay) → Cleared s r → AtEnd (end_by over) s r
+cleared_at overs.End s r cleared = cleared
+cleared_at (overs.Line number) s r cleared = cleared
+cleared_at overs.Source s r cleared = cleared
+
+finishes_left : (over : Over) (begun : List ℕ) (next : ℕ) (seed : List ℕ) (story : Option (List Event)) → Finishes seed (end_by over) (resting [] begun next) story story
+finishes_left over begun next seed story = record {
+  on = λ begin going. going_over run_options seed (resting [] begun next) (ended_by (status_of (end_by over))) (AtEnd (end_by over)) begin story
+      (λ s r old. cleared_at over s r (related_cleared s r (resting [] begun next) old refl)) going;
+}
+
+pub left_after : (before next after : ℕ) (over : Over) (e : End) → e ≡ end_by over → (seed : List ℕ) (old now new : Option (List Event))
+    → ((seed : List ℕ) → (begun : List ℕ) × Leads run_options seed (resting [] [] before) (resting [] begun next) old now)
+    → RestsOrLeaves {X = Unit {0}} (Ok tt) next after now new → Finishes seed e (resting [] [] before) old new
+left_after before next after over e is seed old now new all leaves =
     let at = all seed in
-    leads_finishes seed status (resting [] [] before) (resting [] at.0 next) old now new at.1
-    (leads_finishes seed status (resting [] at.0 next) (resting [] at.0 after) now new new (leaves run_options seed [] at.0)
-    (finishes_leaves seed status (resting [] at.0 after) new new (leaves_now run_options seed (resting [] at.0 after) new)))
+    subst (λ (x : End). Finishes seed x (resting [] [] before) old new) (sym is)
+    (leads_finishes seed (end_by over) (resting [] [] before) (resting [] at.0 next) old now new at.1
+    (leads_finishes seed (end_by over) (resting [] at.0 next) (resting [] at.0 after) now new new (leaves run_options seed [] at.0)
+    (finishes_left over at.0 after seed new)))
 
 pub unleft_after : (before next after : ℕ) (e : End) (seed : List ℕ) (old now new : Option (List Event)) → ((seed : List ℕ) → (begun : List ℕ) × Leads run_options seed (resting [] [] before) (resting [] begun next) old now)
-    → RestsOrLeaves {X = Unit {0}} {E = End} (Err e) next after now new → Finishes seed (status_of e) (resting [] [] before) old new
+    → RestsOrLeaves {X = Unit {0}} (Err e) next after now new → Finishes seed e (resting [] [] before) old new
 unleft_after before next after e seed old now new all leaves =
     let at = all seed in
-    leads_finishes seed (status_of e) (resting [] [] before) (resting [] at.0 next) old now new at.1
-    (finishes_leaves seed (status_of e) (resting [] at.0 next) now new (leaves run_options seed [] at.0))
+    leads_finishes seed e (resting [] [] before) (resting [] at.0 next) old now new at.1
+    (finishes_leaves seed e (resting [] at.0 next) now new leaves.0 (leaves.1 run_options seed [] at.0))
 
 -- the whole run
-pub finishes_plain : (seed : List ℕ) (status result : ℕ) (new : Option (List Event)) → Finishes seed status no_view (Some []) new → ended_by status result ≡ true → PlainAnswers run_options seed result new
-finishes_plain seed status result new finishes ends =
-    over_plain run_options seed (ended_by status) result new (finishes.on (Some []) (going_start run_options seed (Some []))) ends
+pub finishes_plain : (seed : List ℕ) (e : End) (result : ℕ) (new : Option (List Event)) → Finishes seed e no_view (Some []) new → ended_by (status_of e) result ≡ true
+    → PlainAnswers run_options seed result new
+finishes_plain seed e result new finishes ends =
+    over_plain run_options seed (ended_by (status_of e)) (AtEnd e) result new (finishes.on (Some []) (going_start run_options seed (Some []))) ends
+
+-- and where an honest share tells it, this holds of the shares at its end
+pub finishes_after : (seed : List ℕ) (e : End) (result : ℕ) (new : Option (List Event)) → Finishes seed e no_view (Some []) new → ended_by (status_of e) result ≡ true
+    → (came : List Event) → new ≡ Some came → (room : ℕ) (fold : Bool) → IsHonest room fold came
+    → AtEnd e (share_after (start room fold came) came) (replay_after (run_of run_options seed result) (start room fold came) (at_first room fold came) came)
+finishes_after seed e result new finishes ends came is room fold honest =
+    over_after run_options seed (ended_by (status_of e)) (AtEnd e) result new (finishes.on (Some []) (going_start run_options seed (Some []))) ends came is room fold honest

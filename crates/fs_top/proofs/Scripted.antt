@@ -1,20 +1,17 @@
 -- The calls of a script so far, and how a run goes on from them.
-use Rattle.std.specs.Prelude.{map, is_some, if◌then◌else◌}
-use Rattle.std.proofs.Common.{rules, ◌≡◌, ◌⊎◌, inl, inr, ℕ, ◌+◌, Bool, true, false, List, [], ◌∷◌, ◌++◌, refl, ap, sym, ◌∙◌, subst, append_assoc, append-nil, Option, Some, None, Result, Ok, Err}
+use Rattle.std.specs.Prelude.{is_some, if◌then◌else◌}
+use Rattle.std.proofs.Common.{◌≡◌, inl, inr, ℕ, Bool, true, false, List, [], ◌∷◌, ◌++◌, refl, ap, sym, ◌∙◌, subst, append_assoc, append-nil, Option, Some, None, Ok, Err}
 use Rattle.smb_base.specs.declared.names.NoMemory.{NoMemory}
 use Rattle.fs_types.specs.declared.answer.Answer.{Answer}
 use Rattle.smb_link.specs.declared.event.Event.{Event}
-use Rattle.smb_link.specs.declared.event.Event.TheVariants as event
 use Rattle.smb_link.specs.declared.mark.Mark.{Mark}
-use Rattle.smb_link.specs.declared.mark.Mark.TheVariants as mark
-use Rattle.smb_link.specs.Came.{Seen, Came}
+use Rattle.smb_link.specs.Came.{Seen}
 use Rattle.smb_link.proofs.CameLaws.{came_none, came_then}
 use Rattle.smb_mount.specs.declared.facts.Facts.{Facts}
 use Rattle.smb_mount.specs.Kept as kept
 use Rattle.fs_script.specs.Answers.{line_of}
-use Rattle.smb_head.specs.Stream.{rest_in}
-use Rattle.fs_core.specs.Course.{Does, frames_got}
-use Rattle.fs_core.proofs.Courses.{rest_none}
+use Rattle.fs_core.specs.Course.{Does, Tally, IsInTurn}
+use Rattle.fs_core.proofs.Courses.{all_in_turn}
 use Rattle.fs_top.specs.declared.ahead.Asked.{Asked}
 use Rattle.fs_top.specs.declared.ahead.Over.{Over}
 use Rattle.fs_top.specs.declared.ahead.Over.TheVariants as over
@@ -25,8 +22,10 @@ use Rattle.fs_top.specs.Script.{Coming, end_by, over_of}
 use Rattle.fs_top.specs.Progress.{ReadTo}
 use Rattle.fs_top.specs.MountCourse.{MountedBy, start_of}
 use Rattle.fs_top.specs.SharePath.{share_path}
-use Rattle.fs_top.specs.Course.{said, calls_in, ordered, IsOrdered, Stretch, NoCall, Broken, begins, answers, dialogue, lines, AnswersSo, asked_of, LeftSo, AllAnswered, BrokenOff, AnswersOneSo, IsFrontOf, IsEndTold, OverSo, LeavesSo, LooksSo, JoinsSo, ServesSo, MountsSo, RunSo}
-use Rattle.fs_top.proofs.Courses.{said-append, calls_in-append, ordered_then, is_ordered_then, stretch_none, stretch_then, broken_then, broken_at}
+use Rattle.fs_top.specs.Course.{said, calls_in, Stretch, Broken, begins, answers, dialogue, lines, AnswersSo, asked_of, LeftSo, AllAnswered, BrokenOff, AnswersOneSo, IsFrontOf, IsEndTold, OverSo, LeavesSo, LooksSo, JoinsSo, ServesSo}
+use Rattle.fs_top.specs.MountFailure.{MountFails}
+use Rattle.fs_top.specs.RunCourse.{fresh, MountsSo, RunSo}
+use Rattle.fs_top.proofs.Courses.{calls_in-append, ordered_then, is_ordered_then, stretch_none, stretch_still, stretch_then, breaks_then, breaks_at_link, broken_at}
 use Rattle.fs_top.proofs.Exchanging.{Looked, looked_so}
 use Rattle.fs_top.proofs.Saying.{took_none, took_then}
 use Rattle.fs_top.proofs.Talking.{each_behind, each_more}
@@ -44,7 +43,7 @@ asked-append [] ys = refl
 asked-append (x ∷ xs) ys = ap (λ (l : List Asked). x.0 ∷ l) (asked-append xs ys)
 
 -- at the start
-pub all_none : (P : List Asked → Type 0) (o : Bool) (n : ℕ) (h : Held) (seen : Seen) → P [] → Does (AllAnswered o o n n P h h) seen seen
+pub all_none : (P : List Asked → Type 0) (o : Bool) (n : Tally) (h : Held) (seen : Seen) → P [] → Does (AllAnswered o o n n P h h) seen seen
 all_none P o n h seen script = (
   [],
   came_none seen,
@@ -61,16 +60,10 @@ all_none P o n h seen script = (
 )
 
 -- the script is read ahead
-looked_stretch : (o p : Bool) (n : ℕ) (events : List Event) → (l : Looked o p events) → Stretch n n l.marks events
-looked_stretch o p n events l =
-    let s = stretch_none n in
-    record {
-      whole = subst (λ (b : List ℕ). rest_in b ≡ []) (sym l.no_bytes) s.whole;
-      counted = s.counted ∙ ap (λ (b : List ℕ). n + frames_got b) (sym l.no_bytes);
-      says = l.says;
-    }
+looked_stretch : (o p : Bool) (n : Tally) (events : List Event) → (l : Looked o p events) → Stretch n n l.marks events
+looked_stretch o p n events l = stretch_still n l.marks events l.still l.says
 
-pub all_look : (P Q : List Asked → Type 0) (o p q : Bool) (a b : ℕ) (h k : Held) (old now new : Seen) → ((asked : List Asked) → P asked → Q asked) → Does (AllAnswered o p a b P h k) old now
+pub all_look : (P Q : List Asked → Type 0) (o p q : Bool) (a b : Tally) (h k : Held) (old now new : Seen) → ((asked : List Asked) → P asked → Q asked) → Does (AllAnswered o p a b P h k) old now
     → Does (LooksSo {X = Unit {0}} {E = NoMemory} p q (Ok tt)) now new → Does (AllAnswered o q a b Q h k) old new
 all_look P Q o p q a b h k old now new on all look =
     let l : Looked p q look.0 = looked_so p q look.0 look.2 in
@@ -90,14 +83,14 @@ all_look P Q o p q a b h k old now new on all look =
     )
 
 -- the same calls, of which more is known
-pub all_as : (P Q : List Asked → Type 0) (o p : Bool) (a b : ℕ) (h k : Held) (old new : Seen) → ((asked : List Asked) → P asked → Q asked) → Does (AllAnswered o p a b P h k) old new
+pub all_as : (P Q : List Asked → Type 0) (o p : Bool) (a b : Tally) (h k : Held) (old new : Seen) → ((asked : List Asked) → P asked → Q asked) → Does (AllAnswered o p a b P h k) old new
     → Does (AllAnswered o p a b Q h k) old new
 all_as P Q o p a b h k old new on all =
     let s : AllAnswered o p a b P h k all.0 = all.2 in
     (all.0, all.1, record { done = s.done; marks = s.marks; stretch = s.stretch; order = s.order; calls = s.calls; printed = s.printed; each = s.each; script = on (asked_of s.done) s.script })
 
 -- one call more
-pub all_more : (P Q : List Asked → Type 0) (x : Asked) (o p q : Bool) (a b c : ℕ) (h k m : Held) (old now new : Seen) → ((asked : List Asked) → P asked → Q (asked ++ x ∷ []))
+pub all_more : (P Q : List Asked → Type 0) (x : Asked) (o p q : Bool) (a b c : Tally) (h k m : Held) (old now new : Seen) → ((asked : List Asked) → P asked → Q (asked ++ x ∷ []))
     → Does (AllAnswered o p a b P h k) old now → Does (AnswersOneSo p q b c x (Ok tt) k m) now new → Does (AllAnswered o q a c Q h m) old new
 all_more P Q x o p q a b c h k m old now new on all one =
     let s : AllAnswered o p a b P h k all.0 = all.2 in
@@ -125,7 +118,7 @@ end_told (Some (over.Line number)) = inl refl
 end_told (Some over.Source) = refl
 
 -- the run ends in a call
-pub all_break : (P Q : List Asked → Type 0) (x : Asked) (e : End) (o p q : Bool) (a b c : ℕ) (h k m : Held) (old now new : Seen) → ((asked : List Asked) → P asked → Q (asked ++ x ∷ []) × Q asked)
+pub all_break : (P Q : List Asked → Type 0) (x : Asked) (e : End) (o p q : Bool) (a b c : Tally) (h k m : Held) (old now new : Seen) → ((asked : List Asked) → P asked → Q (asked ++ x ∷ []) × Q asked)
     → Does (AllAnswered o p a b P h k) old now → Does (AnswersOneSo p q b c x (Err e) k m) now new → Does (BrokenOff o a c Q e h m) old new
 all_break P Q x e o p q a b c h k m old now new on all one =
     let s : AllAnswered o p a b P h k all.0 = all.2 in (
@@ -136,7 +129,7 @@ all_break P Q x e o p q a b c h k m old now new on all one =
         last = if one.2.3.0 then x ∷ [] else [];
         marks = s.marks ++ one.2.0;
         behind = calls_in one.2.0;
-        broken = broken_then a b c s.marks one.2.0 e all.0 one.0 s.stretch one.2.1;
+        broken = breaks_then a b c s.marks one.2.0 e all.0 one.0 s.stretch one.2.1;
         order = is_ordered_then o p s.marks one.2.0 s.order one.2.2;
         calls = calls_in-append s.marks one.2.0 ∙ ap (λ (l : List Mark). l ++ calls_in one.2.0) s.calls;
         between = k;
@@ -151,8 +144,21 @@ all_break P Q x e o p q a b c h k m old now new on all one =
     with_last true asked both = both.0
     with_last false asked both = subst Q (sym (append-nil asked)) both.1
 
+-- between two calls none is left
+left_none : (e : End) (a b : Tally) (ms : List Mark) (events : List Event) (k : Held) → Broken a b ms e events → LeftSo e [] [] k k
+left_none end.Sink a b ms events k broken = absurd broken.cause
+left_none end.Memory a b ms events k broken = (refl, took_none k)
+left_none end.Cuts a b ms events k broken = (refl, took_none k)
+left_none (end.Frame number why) a b ms events k broken = (refl, took_none k)
+left_none end.Frames a b ms events k broken = (refl, took_none k)
+left_none (end.Mount why) a b ms events k broken = (refl, took_none k)
+left_none end.Done a b ms events k broken = (refl, took_none k)
+left_none (end.Line number) a b ms events k broken = (refl, took_none k)
+left_none (end.Connects number) a b ms events k broken = (refl, took_none k)
+left_none end.Source a b ms events k broken = (refl, took_none k)
+
 -- or between two calls
-pub all_stop : (P Q : List Asked → Type 0) (e : End) (o p : Bool) (a b c : ℕ) (h k : Held) (old now new : Seen) → ((asked : List Asked) → P asked → Q asked) → Does (AllAnswered o p a b P h k) old now
+pub all_stop : (P Q : List Asked → Type 0) (e : End) (o p : Bool) (a b c : Tally) (h k : Held) (old now new : Seen) → ((asked : List Asked) → P asked → Q asked) → Does (AllAnswered o p a b P h k) old now
     → Does (Broken b c [] e) now new → Does (BrokenOff o a c Q e h k) old new
 all_stop P Q e o p a b c h k old now new on all stop =
     let s : AllAnswered o p a b P h k all.0 = all.2 in (
@@ -163,25 +169,25 @@ all_stop P Q e o p a b c h k old now new on all stop =
         last = [];
         marks = s.marks ++ [];
         behind = [];
-        broken = broken_then a b c s.marks [] e all.0 stop.0 s.stretch stop.2;
+        broken = breaks_then a b c s.marks [] e all.0 stop.0 s.stretch (breaks_at_link b c [] e stop.0 stop.2);
         order = is_ordered_then o p s.marks [] s.order (p, refl);
         calls = ap calls_in (append-nil s.marks) ∙ s.calls ∙ sym (append-nil (dialogue s.done));
         between = k;
         printed = s.printed;
-        left = (refl, took_none k);
+        left = left_none e b c [] stop.0 k stop.2;
         each = each_behind s.done all.0 stop.0 s.each;
         script = subst Q (sym (append-nil (asked_of s.done))) (on (asked_of s.done) s.script);
       },
     )
 
 -- for want of memory
-pub memory_stop : (b c : ℕ) (old new : Seen) → Does (λ (events : List Event). events ≡ []) old new → Does (Broken b c [] end.Memory) old new
-memory_stop b c old new none = (none.0, none.1, broken_at b c [] end.Memory none.0 tt (ap said none.2))
+pub memory_stop : (b c : Tally) (old new : Seen) → Does (λ (events : List Event). events ≡ []) old new → Does (Broken b c [] end.Memory) old new
+memory_stop b c old new none = (none.0, none.1, broken_at b c [] end.Memory none.0 (subst IsInTurn (sym none.2) (all_in_turn [] [] refl)) (ap said none.2))
 
 -- the script is over and the share is left
-pub serves_over : (script : Option Coming) (f f' : ℕ) (o p : Bool) (a b c next : ℕ) (facts : Facts) (why : Over) (h k : Held) (old now new : Seen)
-    → Does (λ events. AllAnswered o p a b (ReadTo why script f f') h k events × IsEndTold why p) old now → Does (LeavesSo facts next b c (Ok tt)) now new → Does (ServesSo facts script f f' o a (end_by why) h k) old new
-serves_over script f f' o p a b c next facts why h k old now new all left = (
+pub serves_over : (script : Option Coming) (f f' : ℕ) (o p : Bool) (a b c : Tally) (facts : Facts) (why : Over) (h k : Held) (old now new : Seen)
+    → Does (λ events. AllAnswered o p a b (ReadTo why script f f') h k events × IsEndTold why p) old now → Does (LeavesSo facts b.next b c (Ok tt)) now new → Does (ServesSo facts script f f' o a (end_by why) h k) old new
+serves_over script f f' o p a b c facts why h k old now new all left = (
   all.0 ++ left.0,
   came_then all.0 left.0 old now new all.1 left.1,
   by why (record {
@@ -193,7 +199,6 @@ serves_over script f f' o p a b c next facts why h k old now new all left = (
     are = refl;
     answered = all.2.0;
     told = all.2.1;
-    next = next;
     left = left.2;
   }),
 )
@@ -204,7 +209,7 @@ serves_over script f f' o p a b c next facts why h k old now new all left = (
     by over.Source so = so
 
 -- or the run ends before
-pub serves_broken : (facts : Facts) (script : Option Coming) (f f' : ℕ) (o : Bool) (a b : ℕ) (e : End) (h k : Held) (old new : Seen) → Does (BrokenOff o a b (IsFrontOf script) e h k) old new → Does (ServesSo facts script f f' o a e h k) old new
+pub serves_broken : (facts : Facts) (script : Option Coming) (f f' : ℕ) (o : Bool) (a b : Tally) (e : End) (h k : Held) (old new : Seen) → Does (BrokenOff o a b (IsFrontOf script) e h k) old new → Does (ServesSo facts script f f' o a e h k) old new
 serves_broken facts script f f' o a b end.Done h k old new all = let s : BrokenOff o a b (IsFrontOf script) end.Done h k all.0 = all.2 in absurd s.broken.cause
 serves_broken facts script f f' o a b (end.Line number) h k old new all = let s : BrokenOff o a b (IsFrontOf script) (end.Line number) h k all.0 = all.2 in absurd s.broken.cause
 serves_broken facts script f f' o a b end.Source h k old new all = let s : BrokenOff o a b (IsFrontOf script) end.Source h k all.0 = all.2 in absurd s.broken.cause
@@ -217,7 +222,7 @@ serves_broken facts script f f' o a b end.Sink h k old new all = (all.0, all.1, 
 serves_broken facts script f f' o a b end.Frames h k old new all = (all.0, all.1, (b, all.2))
 
 -- behind the mount
-pub mounts_serves : (start : kept.Start) (facts : Facts) (script : Option Coming) (f f' : ℕ) (middle : ℕ) (e : End) (h k : Held) (old now new : Seen) → Does (MountedBy start facts 0 0 middle) old now
+pub mounts_serves : (start : kept.Start) (facts : Facts) (script : Option Coming) (f f' : ℕ) (middle : Tally) (e : End) (h k : Held) (old now new : Seen) → Does (MountedBy start facts 0 fresh middle) old now
     → Does (ServesSo facts script f f' false middle e h k) now new → Does (MountsSo start script f f' e h k) old new
 mounts_serves start facts script f f' middle e h k old now new mounts serves = (
   mounts.0 ++ serves.0,
@@ -233,9 +238,9 @@ mounts_serves start facts script f f' middle e h k old now new mounts serves = (
   }),
 )
 
--- or the run ends in it
-pub mounts_broken : (start : kept.Start) (script : Option Coming) (f f' after : ℕ) (e : End) (h : Held) (old new : Seen) → Does (Broken 0 after [] e) old new → Does (MountsSo start script f f' e h h) old new
-mounts_broken start script f f' after e h old new stop = (stop.0, stop.1, inl ((after, stop.2), took_none h))
+-- or the mount fails
+pub mounts_fails : (start : kept.Start) (script : Option Coming) (f f' : ℕ) (after : Tally) (e : End) (h : Held) (old new : Seen) → Does (MountFails start e 0 fresh after) old new → Does (MountsSo start script f f' e h h) old new
+mounts_fails start script f f' after e h old new fails = (fails.0, fails.1, inl ((after, fails.2), took_none h))
 
 abbrev make : List ℕ → List ℕ → ℕ → kept.Start
 make guid path previous = record { guid = guid; path = path; previous = previous }

@@ -1,6 +1,5 @@
 -- A call's requests and replies, one after the other.
-use Rattle.std.proofs.Common.{rules, ◌≡◌, ◌∙◌, refl, ap, sym, subst, ℕ, ◌+◌, List, [], ◌∷◌, ◌++◌, append_assoc, append-nil, Option, Some, Result, Ok, Err}
-use Rattle.std.specs.List.{list_all}
+use Rattle.std.proofs.Common.{◌≡◌, ◌∙◌, refl, ap, sym, ℕ, List, [], ◌∷◌, ◌++◌, append_assoc, append-nil}
 use Rattle.smb_base.specs.declared.names.Mid.{Mid}
 use Rattle.share_spec.specs.declared.request.Rep.{Rep}
 use Rattle.fs_types.specs.declared.answer.Answer.{Answer}
@@ -9,7 +8,7 @@ use Rattle.smb_link.specs.Program.{Say}
 use Rattle.fs_plain.specs.View.{Item}
 use Rattle.fs_core.specs.Asking.{flown, landed}
 use Rattle.fs_top.specs.declared.ahead.Asked.{Asked}
-use Rattle.fs_top.specs.Talks.{Exchange, Exchanged, TalksTo, Talks, IsAnswered, EachAnswered}
+use Rattle.fs_top.specs.Talks.{Exchanged, Talks, IsAnswered, EachAnswered}
 use Rattle.fs_top.proofs.Calling.{IsNextOf}
 
 -- the call's program says so at once
@@ -33,12 +32,7 @@ pub talks_last : (P : Item → Type 0) (number : ℕ) (mid : Mid) (message : Lis
 talks_last P number mid message reply a xs next says one i p =
     (record { mid = mid; message = message; reply = reply } ∷ [], (xs, [], sym (append-nil xs), one, next.wish i p, (says i p, refl)))
 
--- events before, behind, and a call more
-pub each_before : (done : List (Asked × Answer)) (xs ys : List Event) → EachAnswered done ys → EachAnswered done (xs ++ ys)
-each_before [] xs ys each = tt
-each_before (d ∷ ds) xs ys each =
-    (xs ++ each.0, each.1, each.2, ap (λ (l : List Event). xs ++ l) each.3 ∙ sym (append_assoc xs each.0 (each.1 ++ each.2)), each.4, each.5)
-
+-- events behind, and a call more
 pub each_behind : (done : List (Asked × Answer)) (xs ys : List Event) → EachAnswered done xs → EachAnswered done (xs ++ ys)
 each_behind [] xs ys each = tt
 each_behind (d ∷ ds) xs ys each = (

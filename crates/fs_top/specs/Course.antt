@@ -1,38 +1,28 @@
 -- What a run does, event by event: what it says of its script, what it prints, and the cause of each end.
-use Rattle.std.specs.Prelude.{◌≡◌, ◌⊎◌, ◌<◌, ℕ, zero, suc, ◌+◌, Bool, true, false, not, List, [], ◌∷◌, ◌++◌, filter, map, Option, Some, None, IfSome, Result, Ok, Err, if◌then◌else◌}
+use Rattle.std.specs.Prelude.{◌≡◌, ◌⊎◌, ◌<◌, ℕ, zero, suc, ◌+◌, Bool, true, false, List, [], ◌∷◌, ◌++◌, filter, map, Option, Some, None, IfSome, Result, Ok, Err, if◌then◌else◌}
 use Rattle.std.specs.List.{list_all}
-use Rattle.smb_head.specs.Header.{head_of}
-use Rattle.smb_head.specs.Stream.{rest_in}
 use Rattle.fs_types.specs.declared.answer.Answer.{Answer}
 use Rattle.fs_types.specs.declared.answer.Answer.TheVariants as answer
 use Rattle.fs_types.specs.declared.call.Call.TheVariants as call
-use Rattle.smb_base.specs.declared.names.Errno.{Errno}
 use Rattle.smb_link.specs.declared.event.Event.{Event}
 use Rattle.smb_link.specs.declared.event.Event.TheVariants as event
 use Rattle.smb_link.specs.declared.mark.Mark.{Mark}
 use Rattle.smb_link.specs.declared.mark.Mark.TheVariants as mark
-use Rattle.smb_mount.specs.declared.fault.MountFault.{MountFault}
-use Rattle.smb_mount.specs.declared.fault.MountFault.TheVariants as fault
 use Rattle.smb_mount.specs.declared.facts.Facts.{Facts}
 use Rattle.smb_mount.specs.Requests.{tree_disconnect, logoff}
-use Rattle.smb_mount.specs.Verdicts.{NegotiateEnds, SetUpEnds, SessionEnds, TreeEnds}
-use Rattle.smb_mount.specs.Kept as kept
 use Rattle.fs_script.specs.Answers.{line_of}
-use Rattle.fs_core.specs.declared.part.Kind as kinds
-use Rattle.fs_core.specs.declared.part.Kind.TheVariants as kind
 use Rattle.fs_core.specs.declared.wire.Stop.{Stop}
 use Rattle.fs_core.specs.declared.wire.Stop.TheVariants as stop
 use Rattle.smb_head.specs.declared.request.Request.{Request}
-use Rattle.smb_link.specs.Came.{Seen}
-use Rattle.fs_core.specs.Course.{Does, bytes_got, frames_got, StopsAt, Replied}
+use Rattle.fs_core.specs.declared.wire.TheConstants.{MAX_FRAMES}
+use Rattle.fs_core.specs.Course.{Tally, tallied, is_mark, OneByOne, IsInTurn, StopsAt, SendsAtMost}
 use Rattle.fs_top.specs.declared.ahead.Asked.{Asked}
 use Rattle.fs_top.specs.declared.ahead.Over.{Over}
 use Rattle.fs_top.specs.declared.ahead.Over.TheVariants as over
 use Rattle.fs_top.specs.declared.run_end.End.{End}
 use Rattle.fs_top.specs.declared.run_end.End.TheVariants as end
-use Rattle.fs_top.specs.MountCourse.{Told, MountedBy}
+use Rattle.fs_top.specs.MountCourse.{Told}
 use Rattle.fs_top.specs.Run.{opening}
-use Rattle.fs_top.specs.RunEndings.{PrintedEnd}
 use Rattle.fs_top.specs.Script.{Coming, greatest}
 use Rattle.fs_top.specs.Progress.{IsFront, ReadTo}
 use Rattle.fs_top.specs.Talks.{IsAnswered, EachAnswered}
@@ -74,14 +64,15 @@ ordered ended (m ∷ marks) = ordered ended marks
 abbrev pub IsOrdered : Bool → List Mark → Type 0
 IsOrdered ended marks = (after : Bool) × (ordered ended marks ≡ Some after)
 
--- a stretch of a run: whole frames came, and the run said this of its script. So many frames had come before it, and so many after it
-pub record Stretch (before after : ℕ) (marks : List Mark) (events : List Event) : Type 0 where
-  pub whole : rest_in (bytes_got events) ≡ []
-  pub counted : after ≡ before + frames_got (bytes_got events)
+-- a stretch of a run: requests went one by one, and the run said this of its script, with the connection's counts before it and after it
+pub record Stretch (before after : Tally) (marks : List Mark) (events : List Event) : Type 0 where
+  pub exchanges : List (List ℕ × List ℕ)
+  pub one_by_one : OneByOne exchanges events
+  pub counted : after ≡ tallied before events
   pub says : said events ≡ marks
 
 -- a stretch that stops, with its cause
-pub record Stopped (before after : ℕ) (marks : List Mark) (why : Stop) (events : List Event) : Type 0 where
+pub record Stopped (before after : Tally) (marks : List Mark) (why : Stop) (events : List Event) : Type 0 where
   pub stops : StopsAt patience before after why events
   pub says : said events ≡ marks
 
@@ -95,56 +86,22 @@ pub record NoCallYet (ended : Bool) (marks : List Mark) : Type 0 where
   pub order : IsOrdered ended marks
 
 -- requests of a call and their replies, of which this is told, or the cause of the stop
-abbrev pub ConversesSo : {X : Type 0} → (X → List Event → Type 0) → Bool → Bool → ℕ → ℕ → Result X Stop → List Event → Type 0
+abbrev pub ConversesSo : {X : Type 0} → (X → List Event → Type 0) → Bool → Bool → Tally → Tally → Result X Stop → List Event → Type 0
 ConversesSo told ended ended' before after (Ok x) events =
     (marks : List Mark) × NoCall ended ended' marks × Stretch before after marks events × told x events
 ConversesSo told ended ended' before after (Err why) events = (marks : List Mark) × NoCallYet ended marks × Stopped before after marks why events
 
--- a reply of a mount with this refusal: that of a NEGOTIATE, of either SESSION_SETUP, or of a TREE_CONNECT
-abbrev pub IsRefusal : MountFault → List ℕ → Type 0
-IsRefusal why part =
-    ((k : kept.Start) × NegotiateEnds k (head_of part) part (Err why))
-    ⊎ ((k : kept.Greeted) × SetUpEnds k (head_of part) part (Err why))
-    ⊎ ((k : kept.Challenge) × SessionEnds k (head_of part) part (Err why))
-    ⊎ ((k : kept.Session) × TreeEnds k (head_of part) part (Err why))
-
--- the last request was answered, by a reply with this refusal
-pub record RefusedAt (before after : ℕ) (why : MountFault) (events : List Event) : Type 0 where
-  pub front : List Event
-  pub last : List Event
-  pub message : List ℕ
-  pub part : List ℕ
-  pub are : events ≡ front ++ last
-  pub whole : rest_in (bytes_got front) ≡ []
-  pub replied : Replied (before + frames_got (bytes_got front)) after message part last
-  pub refuses : IsRefusal why part
-
--- a reply of a mount whose body is none of its command
-abbrev pub IsMalformed : MountFault → Type 0
-IsMalformed (fault.Malformed body) = Unit {0}
-IsMalformed why = ⊥
-
-abbrev pub UnreadAt : ℕ → ℕ → List Event → Type 0
-UnreadAt before after events = (why : MountFault) × IsMalformed why × RefusedAt before after why events
-
--- the cause of each end that comes before the script's: in the events up to it. Want of memory has none, and a sink that refuses is its own
-abbrev pub CauseOf : ℕ → ℕ → End → List Event → Type 0
-CauseOf before after end.Memory events = Unit {0}
-CauseOf before after end.Sink events = Unit {0}
+-- The cause of each end that comes before the script's, in the events up to it. Want of memory has none; up to it requests went in turn, as
+-- they did up to each cause. A sink that refuses is not at the link, and a mount that is refused is told with the reply that refuses it.
+abbrev pub CauseOf : Tally → Tally → End → List Event → Type 0
+CauseOf before after end.Memory events = IsInTurn events
 CauseOf before after end.Cuts events = StopsAt patience before after stop.Lost events ⊎ StopsAt patience before after stop.Silent events
-CauseOf before after (end.Frame number fault) events =
-    (number ≡ after) × (StopsAt patience before after (stop.Fault fault) events ⊎ ((fault ≡ kind.Body) × UnreadAt before after events))
+CauseOf before after (end.Frame number fault) events = (number ≡ after.frames) × StopsAt patience before after (stop.Fault fault) events
 CauseOf before after end.Frames events = StopsAt patience before after stop.Frames events
-CauseOf before after (end.Mount why) events = RefusedAt before after why events
 CauseOf before after e events = ⊥
 
--- an event that the program puts into the story itself
-abbrev pub is_mark : Event → Bool
-is_mark (event.Marked m) = true
-is_mark e = false
-
 -- a stretch that ends the run: its cause, and behind it marks alone
-pub record Broken (before after : ℕ) (marks : List Mark) (e : End) (events : List Event) : Type 0 where
+pub record Broken (before after : Tally) (marks : List Mark) (e : End) (events : List Event) : Type 0 where
   pub upto : List Event
   pub behind : List Event
   pub are : events ≡ upto ++ behind
@@ -152,24 +109,29 @@ pub record Broken (before after : ℕ) (marks : List Mark) (e : End) (events : L
   pub cause : CauseOf before after e upto
   pub says : said events ≡ marks
 
--- requests of a mount and their replies, as they are taken for this result; or the end of the run, and of the script nothing is said
-abbrev pub StepsSo : {X : Type 0} → (X → ℕ → ℕ → ℕ → List Event → Type 0) → ℕ → ℕ → ℕ → Result X End → List Event → Type 0
-StepsSo Taken next before after (Ok x) events = Taken x next before after events
-StepsSo Taken next before after (Err e) events = Broken before after [] e events
+-- the end of a run in its calls: a cause at the link; or the sink refuses the line of an answer, up to which requests went in turn
+abbrev pub BreaksOff : Tally → Tally → List Mark → End → List Event → Type 0
+BreaksOff before after marks end.Sink events = IsInTurn events × (said events ≡ marks)
+BreaksOff before after marks e events = Broken before after marks e events
+
+-- requests of a mount and their replies, as they are taken for this result, or as they fail by this end
+abbrev pub StepsSo : {X : Type 0} → (X → ℕ → Tally → Tally → List Event → Type 0) → (End → ℕ → Tally → Tally → List Event → Type 0) → ℕ → Tally → Tally → Result X End → List Event → Type 0
+StepsSo Taken Fails next before after (Ok x) events = Taken x next before after events
+StepsSo Taken Fails next before after (Err e) events = Fails e next before after events
 
 -- one request of the connection itself and its reply
-abbrev pub AsksSo : Request → ℕ → ℕ → ℕ → Result (List ℕ) End → List Event → Type 0
+abbrev pub AsksSo : Request → ℕ → Tally → Tally → Result (List ℕ) End → List Event → Type 0
 AsksSo request next before after (Ok part) events = Told request next before after part events
-AsksSo request next before after (Err e) events = Broken before after [] e events
+AsksSo request next before after (Err e) events = Broken before after [] e events × SendsAtMost request next events
 
 -- the same, whatever the reply says
-abbrev pub TellsSo : Request → ℕ → ℕ → ℕ → Result (Unit {0}) End → List Event → Type 0
+abbrev pub TellsSo : Request → ℕ → Tally → Tally → Result (Unit {0}) End → List Event → Type 0
 TellsSo request next before after (Ok x) events = (part : List ℕ) × Told request next before after part events
 TellsSo request next before after (Err e) events = Broken before after [] e events
 
--- two such requests, one after the other
-pub record BothTold (first second : Request) (next before after : ℕ) (events : List Event) : Type 0 where
-  pub between : ℕ
+-- two such requests, one after the other; fewer frames came than end a run
+pub record BothTold (first second : Request) (next : ℕ) (before after : Tally) (events : List Event) : Type 0 where
+  pub between : Tally
   pub events_of_first : List Event
   pub events_of_second : List Event
   pub reply_to_first : List ℕ
@@ -177,13 +139,14 @@ pub record BothTold (first second : Request) (next before after : ℕ) (events :
   pub are : events ≡ events_of_first ++ events_of_second
   pub told_first : Told first next before between reply_to_first events_of_first
   pub told_second : Told second (next + 1) between after reply_to_second events_of_second
+  pub few : after.frames < MAX_FRAMES
 
-abbrev pub BothSo : Request → Request → ℕ → ℕ → ℕ → Result (Unit {0}) End → List Event → Type 0
+abbrev pub BothSo : Request → Request → ℕ → Tally → Tally → Result (Unit {0}) End → List Event → Type 0
 BothSo first second next before after (Ok x) events = BothTold first second next before after events
 BothSo first second next before after (Err e) events = Broken before after [] e events
 
 -- a share is left: its tree is disconnected and its session ended, and both are answered (MS-SMB2 3.2.4.22 and 3.2.4.23)
-abbrev pub LeavesSo : Facts → ℕ → ℕ → ℕ → Result (Unit {0}) End → List Event → Type 0
+abbrev pub LeavesSo : Facts → ℕ → Tally → Tally → Result (Unit {0}) End → List Event → Type 0
 LeavesSo facts next before after result events = BothSo (tree_disconnect facts) (logoff facts) next before after result events
 
 -- a call that a line asks for, and its answer
@@ -207,7 +170,7 @@ lines [] = []
 lines (done ∷ others) = line_of done.0.number done.1 ++ lines others
 
 -- one call is begun, answered and printed
-pub record AnswersSo (ended ended' : Bool) (before after : ℕ) (x : Asked) (old new : Held) (events : List Event) : Type 0 where
+pub record AnswersSo (ended ended' : Bool) (before after : Tally) (x : Asked) (old new : Held) (events : List Event) : Type 0 where
   pub a : Answer
   pub marks : List Mark
   pub stretch : Stretch before after marks events
@@ -227,8 +190,9 @@ LeavesCall (end.Frame number fault) x calls old new =
 LeavesCall end.Cuts x calls old new = (calls ≡ begins x ∷ answers x (unanswered 112) ∷ []) × TookAll (line_of x.number (unanswered 112)) old new
 LeavesCall e x calls old new = ⊥
 
--- the call that is left, if there is one
+-- the call that is left, if there is one: a sink refuses the line of one
 abbrev pub LeftSo : End → List Asked → List Mark → Held → Held → Type 0
+LeftSo end.Sink [] calls old new = ⊥
 LeftSo e [] calls old new = (calls ≡ []) × TookAll [] old new
 LeftSo e (x ∷ []) calls old new = LeavesCall e x calls old new
 LeftSo e (x ∷ y ∷ more) calls old new = ⊥
@@ -238,7 +202,7 @@ abbrev pub asked_of : List (Asked × Answer) → List Asked
 asked_of done = map (λ (d : Asked × Answer). d.0) done
 
 -- the calls of a script are answered and printed, and of them this holds
-pub record AllAnswered (ended ended' : Bool) (before after : ℕ) (P : List Asked → Type 0) (old new : Held) (events : List Event) : Type 0 where
+pub record AllAnswered (ended ended' : Bool) (before after : Tally) (P : List Asked → Type 0) (old new : Held) (events : List Event) : Type 0 where
   pub done : List (Asked × Answer)
   pub marks : List Mark
   pub stretch : Stretch before after marks events
@@ -249,12 +213,12 @@ pub record AllAnswered (ended ended' : Bool) (before after : ℕ) (P : List Aske
   pub script : P (asked_of done)
 
 -- the run ends before: some calls are answered and printed, the last one may be left, and of all of them this holds
-pub record BrokenOff (ended : Bool) (before after : ℕ) (P : List Asked → Type 0) (e : End) (old new : Held) (events : List Event) : Type 0 where
+pub record BrokenOff (ended : Bool) (before after : Tally) (P : List Asked → Type 0) (e : End) (old new : Held) (events : List Event) : Type 0 where
   pub done : List (Asked × Answer)
   pub last : List Asked
   pub marks : List Mark
   pub behind : List Mark
-  pub broken : Broken before after marks e events
+  pub broken : BreaksOff before after marks e events
   pub order : IsOrdered ended marks
   pub calls : calls_in marks ≡ dialogue done ++ behind
   pub between : Held
@@ -263,10 +227,10 @@ pub record BrokenOff (ended : Bool) (before after : ℕ) (P : List Asked → Typ
   pub each : EachAnswered done events
   pub script : P (asked_of done ++ last)
 
-abbrev pub AnswersOneSo : Bool → Bool → ℕ → ℕ → Asked → Result (Unit {0}) End → Held → Held → List Event → Type 0
+abbrev pub AnswersOneSo : Bool → Bool → Tally → Tally → Asked → Result (Unit {0}) End → Held → Held → List Event → Type 0
 AnswersOneSo ended ended' before after x (Ok u) old new events = AnswersSo ended ended' before after x old new events
 AnswersOneSo ended ended' before after x (Err e) old new events =
-    (marks : List Mark) × Broken before after marks e events × IsOrdered ended marks
+    (marks : List Mark) × BreaksOff before after marks e events × IsOrdered ended marks
     × ((begun : Bool) × LeftSo e (if begun then x ∷ [] else []) (calls_in marks) old new)
 
 -- these are the first calls of the script, where its source tells
@@ -279,7 +243,7 @@ IsEndTold over.End ended = ended ≡ true
 IsEndTold (over.Line number) ended = (ended ≡ true) ⊎ (number ≡ greatest)
 IsEndTold over.Source ended = ended ≡ true
 
-abbrev pub AnswersAllSo : Option Coming → ℕ → ℕ → Bool → Bool → ℕ → ℕ → Result Over End → Held → Held → List Event → Type 0
+abbrev pub AnswersAllSo : Option Coming → ℕ → ℕ → Bool → Bool → Tally → Tally → Result Over End → Held → Held → List Event → Type 0
 AnswersAllSo script faults faults' ended ended' before after (Ok why) old new events =
     AllAnswered ended ended' before after (ReadTo why script faults faults') old new events × IsEndTold why ended'
 AnswersAllSo script faults faults' ended ended' before after (Err e) old new events = BrokenOff ended before after (IsFrontOf script) e old new events
@@ -321,59 +285,20 @@ LooksSo ended ended' (Ok x) events = ((ended ≡ ended') × (events ≡ [])) ⊎
 LooksSo ended ended' (Err e) events = events ≡ []
 
 -- the script was run to its end, the end was told, and then this share was left
-pub record OverSo (facts : Facts) (script : Option Coming) (faults faults' : ℕ) (ended : Bool) (before : ℕ) (why : Over) (old new : Held) (events : List Event) : Type 0 where
+pub record OverSo (facts : Facts) (script : Option Coming) (faults faults' : ℕ) (ended : Bool) (before : Tally) (why : Over) (old new : Held) (events : List Event) : Type 0 where
   pub ended' : Bool
-  pub between : ℕ
-  pub after : ℕ
+  pub between : Tally
+  pub after : Tally
   pub answering : List Event
   pub leaving : List Event
   pub are : events ≡ answering ++ leaving
   pub answered : AllAnswered ended ended' before between (ReadTo why script faults faults') old new answering
   pub told : IsEndTold why ended'
-  pub next : ℕ
-  pub left : LeavesSo facts next between after (Ok tt) leaving
+  pub left : LeavesSo facts between.next between after (Ok tt) leaving
 
 -- the script is run on this share, which is mounted, and the share is left; or the run ends before
-abbrev pub ServesSo : Facts → Option Coming → ℕ → ℕ → Bool → ℕ → End → Held → Held → List Event → Type 0
+abbrev pub ServesSo : Facts → Option Coming → ℕ → ℕ → Bool → Tally → End → Held → Held → List Event → Type 0
 ServesSo facts script faults faults' ended before end.Done old new events = OverSo facts script faults faults' ended before over.End old new events
 ServesSo facts script faults faults' ended before (end.Line number) old new events = OverSo facts script faults faults' ended before (over.Line number) old new events
 ServesSo facts script faults faults' ended before end.Source old new events = OverSo facts script faults faults' ended before over.Source old new events
-ServesSo facts script faults faults' ended before e old new events = (after : ℕ) × BrokenOff ended before after (IsFrontOf script) e old new events
-
--- the share is mounted, and the script is run on it
-pub record MountedSo (start : kept.Start) (script : Option Coming) (faults faults' : ℕ) (e : End) (old new : Held) (events : List Event) : Type 0 where
-  pub facts : Facts
-  pub middle : ℕ
-  pub mounting : List Event
-  pub serving : List Event
-  pub are : events ≡ mounting ++ serving
-  pub mounted : MountedBy start facts 0 0 middle mounting
-  pub served : ServesSo facts script faults faults' false middle e old new serving
-
--- the run ends before the share is mounted: of the script nothing is said, and nothing is printed
-abbrev pub UnmountedSo : End → Held → Held → List Event → Type 0
-UnmountedSo e old new events = ((after : ℕ) × Broken 0 after [] e events) × TookAll [] old new
-
--- a connection that stands: the share is mounted and the script is run on it, or the run ends before
-abbrev pub MountsSo : kept.Start → Option Coming → ℕ → ℕ → End → Held → Held → List Event → Type 0
-MountsSo start script faults faults' e old new events = UnmountedSo e old new events ⊎ MountedSo start script faults faults' e old new events
-
--- a run: no connection is made, or memory runs out before; or one is made, and the share is mounted and the script run on it
-abbrev pub UnjoinedSo : Bool → End → Held → Held → List Event → Type 0
-UnjoinedSo stood e old new events = JoinsSo stood (Err e) events × TookAll [] old new
-
-abbrev pub JoinedSo : kept.Start → Option Coming → ℕ → ℕ → Bool → End → Held → Held → List Event → Type 0
-JoinedSo start script faults faults' stood e old new events =
-    (joining : List Event) × (behind : List Event) × (events ≡ joining ++ behind) × JoinsSo stood (Ok tt) joining
-    × MountsSo start script faults faults' e old new behind
-
-abbrev pub RunSo : kept.Start → Option Coming → ℕ → ℕ → Bool → End → Held → Held → List Event → Type 0
-RunSo start script faults faults' stood e old new events = UnjoinedSo stood e old new events ⊎ JoinedSo start script faults faults' stood e old new events
-
--- A whole run over a script, where its source tells it, on the share that this mount asks for: what came at the link and was printed by one
--- of its ends, and then the last line of that end. The source's faults before and after are counted.
-pub record RunEnds (start : kept.Start) (script : Option Coming) (faults faults' : ℕ) (stood : Bool) (link link' : Seen) (out out' : Held) (status : ℕ) : Type 0 where
-  pub e : End
-  pub between : Held
-  pub runs : Does (RunSo start script faults faults' stood e out between) link link'
-  pub printed : PrintedEnd e between out' status
+ServesSo facts script faults faults' ended before e old new events = (after : Tally) × BrokenOff ended before after (IsFrontOf script) e old new events

@@ -1,3 +1,4 @@
+pub mod Completeness
 pub mod Counts
 pub mod Endings
 pub mod Printing
@@ -14,3 +15,5 @@ pub mod Progress
 pub mod Talks
 pub mod Course
 pub mod MountCourse
+pub mod MountFailure
+pub mod RunCourse

@@ -1,12 +1,10 @@
 -- How far a script was read and answered.
-use Rattle.std.specs.Prelude.{◌≡◌, ◌⊎◌, ◌==◌, ℕ, Bool, true, false, MatchBool, IfSome, List, [], ◌∷◌, ◌++◌, Option, Some, None, option_map}
+use Rattle.std.specs.Prelude.{◌≡◌, ◌⊎◌, ℕ, Bool, true, false, MatchBool, IfSome, List, ◌++◌, length, Option, Some, None, option_map}
 use Rattle.smb_link.specs.Count.{counted}
 use Rattle.fs_top.specs.declared.ahead.Ahead.{Ahead}
 use Rattle.fs_top.specs.declared.ahead.Asked.{Asked}
 use Rattle.fs_top.specs.declared.ahead.Over as overs
 use Rattle.fs_top.specs.declared.ahead.Over.TheVariants as over
-use Rattle.fs_top.specs.declared.run_end.End.{End}
-use Rattle.fs_top.specs.declared.run_end.End.TheVariants as end
 use Rattle.fs_top.specs.Script.{Coming, to_come, is_failed_now, Keeps, IsHeldOrOver, greatest}
 
 -- the lines ahead, what their source has left, and how often it failed
@@ -48,5 +46,5 @@ pub record Progress (script : Option Coming) (faults : ℕ) (asked : List Asked)
 abbrev pub ReadTo : overs.Over → Option Coming → ℕ → ℕ → List Asked → Type 0
 ReadTo over.End script faults faults' asked = IfSome script (λ s. (s.calls ≡ asked) × (s.over ≡ over.End)) × (faults' ≡ faults)
 ReadTo (over.Line number) script faults faults' asked =
-    (IfSome script (λ s. (s.calls ≡ asked) × (s.over ≡ over.Line number)) × (faults' ≡ faults)) ⊎ ((number ≡ greatest) × IfSome script (IsFront asked))
+    (IfSome script (λ s. (s.calls ≡ asked) × (s.over ≡ over.Line number)) × (faults' ≡ faults)) ⊎ ((number ≡ greatest) × (length asked ≡ greatest) × IfSome script (IsFront asked))
 ReadTo over.Source script faults faults' asked = IfSome script (IsFront asked) × (faults' ≡ counted faults true)

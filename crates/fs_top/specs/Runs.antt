@@ -16,12 +16,17 @@ use Rattle.smb_names.specs.declared.fault.NameFault.TheVariants as fault
 use Rattle.share_spec.specs.PlainShare.{shown}
 use Rattle.smb_link.specs.Program.{Own, Open, Query, Close, Program, Ask, Say, at_path, of_errno, number_of_fault}
 use Rattle.smb_link.specs.Stat.{stat_program, stat_once_open, stat_answer}
+use Rattle.share_spec.specs.declared.share.Share.{Share}
 use Rattle.fs_plain.specs.Answered.{ended_by}
+use Rattle.fs_plain.specs.CleanEnd.{Cleared}
+use Rattle.fs_plain.specs.Replay.{Replay}
 use Rattle.fs_plain.specs.View.{Item, View, fids_after, no_view}
 use Rattle.fs_plain.specs.Sends.{nth_fid}
 use Rattle.fs_plain.specs.Moves.{Going, Leads, Leaves, Over, Closes}
+use Rattle.fs_core.specs.declared.wire.Stop.{Stop}
 use Rattle.fs_core.specs.declared.wire.Wire.{Wire}
 use Rattle.fs_core.specs.declared.wire.TheConstants.{MAX_FRAMES}
+use Rattle.fs_core.specs.Foul.{is_foul, foul_stop}
 use Rattle.fs_core.specs.Exchange.{resting}
 use Rattle.fs_core.specs.Asking.{flown, landed, MayRequest}
 use Rattle.fs_top.specs.declared.ahead.Ahead.{Ahead}
@@ -48,17 +53,30 @@ run_options = record {
   patience = 300;
 }
 
--- a step leads on without a change of the view; or the run ends
+-- a run ended by what the server sent, which no honest share sends
+abbrev pub foul_end : End → Bool
+foul_end (end.Frame number kind) = is_foul kind
+foul_end e = false
+
+-- a run ended with its script, or at a line that is no call: the share was left
+abbrev pub is_through : End → Bool
+is_through end.Done = true
+is_through (end.Line number) = true
+is_through end.Source = true
+is_through e = false
+
+-- a step leads on without a change of the view; or the run ends, by no fault of the server
 abbrev pub StaysOrLeaves : {X E : Type 0} → Result X E → Option (List Event) → Option (List Event) → Type 0
 StaysOrLeaves (Ok x) old new = (options : Options) (seed : List ℕ) (v : View) → Leads options seed v v old new
-StaysOrLeaves (Err e) old new = (options : Options) (seed : List ℕ) (v : View) → Leaves options seed v old new
+StaysOrLeaves (Err e) old new = (options : Options) (seed : List ℕ) (v : View) → Leaves options seed v false old new
 
--- a step uses these ids, and nothing is in flight after it; or the run ends
-abbrev pub RestsOrLeaves : {X E : Type 0} → Result X E → ℕ → ℕ → Option (List Event) → Option (List Event) → Type 0
+-- a step uses these ids, and nothing is in flight after it; or the run ends before its script does
+abbrev pub RestsOrLeaves : {X : Type 0} → Result X End → ℕ → ℕ → Option (List Event) → Option (List Event) → Type 0
 RestsOrLeaves (Ok x) before after old new =
     (options : Options) (seed : List ℕ) (items : List Item) (begun : List ℕ) → Leads options seed (resting items begun before) (resting items begun after) old new
 RestsOrLeaves (Err e) before after old new =
-    (options : Options) (seed : List ℕ) (items : List Item) (begun : List ℕ) → Leaves options seed (resting items begun before) old new
+    (is_through e ≡ false)
+    × ((options : Options) (seed : List ℕ) (items : List Item) (begun : List ℕ) → Leaves options seed (resting items begun before) (foul_end e) old new)
 
 -- a connection can go on: it holds no part of a frame, and fewer frames came than may
 pub record IsReady (w : Wire) : Type 0 where
@@ -98,22 +116,22 @@ pub record IsSaid (number : ℕ) (a : Answer) (i : Item) : Type 0 where
   pub idle : i.flying ≡ None
 
 -- the only call's next request is sent and answered; or the run ends
-abbrev pub Exchanges : {E : Type 0} → ℕ → Mid → List ℕ → Result Rep E → Option (List Event) → Option (List Event) → Type 0
+abbrev pub Exchanges : ℕ → Mid → List ℕ → Result Rep Stop → Option (List Event) → Option (List Event) → Type 0
 Exchanges number mid message (Ok reply) old new =
     (options : Options) (seed : List ℕ) (begun : List ℕ) (i : Item) → MayRequest number mid message begun i
     → Leads options seed (resting (i ∷ []) begun mid.0) (resting (landed reply (flown mid i) ∷ []) begun (mid.0 + 1)) old new
-Exchanges number mid message (Err e) old new =
+Exchanges number mid message (Err why) old new =
     (options : Options) (seed : List ℕ) (begun : List ℕ) (i : Item) → MayRequest number mid message begun i
-    → Leaves options seed (resting (i ∷ []) begun mid.0) old new
+    → Leaves options seed (resting (i ∷ []) begun mid.0) (foul_stop why) old new
 
 -- the only call goes on, from a state of which this holds, until it has its answer; or the run ends
-abbrev pub Answers : {E : Type 0} → (Item → Type 0) → ℕ → Result Answer E → ℕ → ℕ → Option (List Event) → Option (List Event) → Type 0
+abbrev pub Answers : (Item → Type 0) → ℕ → Result Answer Stop → ℕ → ℕ → Option (List Event) → Option (List Event) → Type 0
 Answers P number (Ok a) before after old new =
     (seed : List ℕ) (begun : List ℕ) (i : Item) → P i → MayGoOn number begun i
     → (j : Item) × IsSaid number a j × Leads run_options seed (resting (i ∷ []) begun before) (resting (j ∷ []) begun after) old new
-Answers P number (Err e) before after old new =
+Answers P number (Err why) before after old new =
     (seed : List ℕ) (begun : List ℕ) (i : Item) → P i → MayGoOn number begun i
-    → Leaves run_options seed (resting (i ∷ []) begun before) old new
+    → Leaves run_options seed (resting (i ∷ []) begun before) (foul_stop why) old new
 
 -- a call that is to stat this path; this path on the share; once its CREATE has this reply; what it opened; and once its QUERY_INFO has this
 -- reply
@@ -144,10 +162,6 @@ IsPathOnShare path (Ok wire) = (program : List ℕ → Program) → at_path run_
 IsPathOnShare path (Err fault.NoMemory) = Unit {0}
 IsPathOnShare path (Err why) = (program : List ℕ → Program) → at_path run_options path program ≡ Say (of_errno (number_of_fault why))
 
--- what was done leads from a view to the end of the story of a run that ended by this status
-pub record Finishes (seed : List ℕ) (status : ℕ) (v : View) (old new : Option (List Event)) : Type 0 where
-  pub on : (begin : Option (List Event)) → Going run_options seed begin old v → Over run_options seed (ended_by status) begin new
-
 -- these lines were begun, none of them after the one with this number
 abbrev pub IsUpTo : ℕ → List ℕ → Type 0
 IsUpTo last begun = list_all (λ n. nat_le n last) begun ≡ true
@@ -165,10 +179,23 @@ status_of end.Source = 7
 status_of end.Sink = 8
 status_of end.Frames = 10
 
--- a run that gave up finishes the story: from where it may be no more than over
-abbrev pub FinishesOnErr : {X : Type 0} → Result X End → List ℕ → View → Option (List Event) → Option (List Event) → Type 0
-FinishesOnErr (Ok x) seed v old new = Unit {0}
-FinishesOnErr (Err e) seed v old new = Finishes seed (status_of e) v old new
+-- what holds nowhere, or everywhere
+abbrev pub IsNever : Bool → Type 0
+IsNever true = ⊥
+IsNever false = Unit {0}
+
+-- what holds of the two shares at each end: where the share was left it is as the plain client leaves it, and no honest share leads to an
+-- end by what the server sent
+abbrev pub AtEnd : End → Share → Replay → Type 0
+AtEnd end.Done s r = Cleared s r
+AtEnd (end.Line number) s r = Cleared s r
+AtEnd end.Source s r = Cleared s r
+AtEnd (end.Frame number kind) s r = IsNever (is_foul kind)
+AtEnd e s r = Unit {0}
+
+-- what was done leads from a view to the end of the story of a run that ended so
+pub record Finishes (seed : List ℕ) (e : End) (v : View) (old new : Option (List Event)) : Type 0 where
+  pub on : (begin : Option (List Event)) → Going run_options seed begin old v → Over run_options seed (ended_by (status_of e)) (AtEnd e) begin new
 
 -- a call is begun and answered; or the story is over
 abbrev pub AnswersLine : ℕ → Result (Unit {0}) End → ℕ → ℕ → Option (List Event) → Option (List Event) → Type 0
@@ -177,7 +204,7 @@ AnswersLine number (Ok x) before after old new =
     → Leads run_options seed (resting [] begun before) (resting [] (number ∷ begun) after) old new
 AnswersLine number (Err e) before after old new =
     (seed : List ℕ) (last : ℕ) (begun : List ℕ) → IsUpTo last begun → last < number
-    → Finishes seed (status_of e) (resting [] begun before) old new
+    → Finishes seed e (resting [] begun before) old new
 
 -- a line's call is begun
 abbrev pub BeginsLine : {E : Type 0} → Asked → Result (Unit {0}) E → Option (List Event) → Option (List Event) → Type 0
@@ -194,7 +221,7 @@ errno_by other = None
 abbrev pub AnswersAll : {X : Type 0} → Result X End → ℕ → ℕ → Option (List Event) → Option (List Event) → Type 0
 AnswersAll (Ok x) before after old new =
     (seed : List ℕ) → (begun : List ℕ) × Leads run_options seed (resting [] [] before) (resting [] begun after) old new
-AnswersAll (Err e) before after old new = (seed : List ℕ) → Finishes seed (status_of e) (resting [] [] before) old new
+AnswersAll (Err e) before after old new = (seed : List ℕ) → Finishes seed e (resting [] [] before) old new
 
 -- an answer of the only call, which has come to it, is put into the story; or the run ends
 abbrev pub AnswerTold : ℕ → Answer → Result (Unit {0}) End → Option (List Event) → Option (List Event) → Type 0
@@ -202,13 +229,14 @@ AnswerTold number a (Ok x) old new = Gains (event.Marked (mark.Answer number a) 
 AnswerTold number a (Err end.Sink) old new = Gains (event.Marked (mark.Answer number a) ∷ []) old new
 AnswerTold number a (Err e) old new = (e ≡ end.Memory) × Gains [] old new
 
--- a run that gives up answers the call that is unanswered, and the story is over
-abbrev pub GivesUp : ℕ → End → Option (List Event) → Option (List Event) → Type 0
-GivesUp number e old new =
-    (seed : List ℕ) (numbers : List ℕ) → list_any (λ n. n == number) numbers ≡ true
-    → Closes run_options seed numbers (ended_by (status_of e)) old new
+-- a run that gives up for this cause answers the call that is unanswered, and the story is over at this end
+abbrev pub GivesUp : ℕ → End → End → Option (List Event) → Option (List Event) → Type 0
+GivesUp number cause e old new =
+    is_through cause ≡ false → (seed : List ℕ) (numbers : List ℕ) → list_any (λ n. n == number) numbers ≡ true
+    → Closes run_options seed numbers (foul_end cause) (ended_by (status_of e)) (AtEnd e) old new
 
--- the connection is made, from where none stood; or the run ends
+-- the connection is made, from where none stood; or the run ends before its script does
 abbrev pub Joins : Bool → Result (Unit {0}) End → Option (List Event) → Option (List Event) → Type 0
 Joins stood (Ok x) old new = stood ≡ false → (options : Options) (seed : List ℕ) → Leads options seed no_view (resting [] [] 0) old new
-Joins stood (Err e) old new = stood ≡ false → (options : Options) (seed : List ℕ) → Leaves options seed no_view old new
+Joins stood (Err e) old new =
+    (is_through e ≡ false) × (stood ≡ false → (options : Options) (seed : List ℕ) → Leaves options seed no_view (foul_end e) old new)

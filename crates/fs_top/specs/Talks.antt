@@ -1,5 +1,5 @@
 -- A call's requests and replies, one after the other, and its answer.
-use Rattle.std.specs.Prelude.{◌≡◌, ℕ, Bool, true, false, List, [], ◌∷◌, ◌++◌, Option, Some, Ok}
+use Rattle.std.specs.Prelude.{◌≡◌, ℕ, true, List, [], ◌∷◌, ◌++◌, Some, Ok}
 use Rattle.std.specs.List.{list_all}
 use Rattle.smb_base.specs.declared.names.Fid.{Fid}
 use Rattle.smb_base.specs.declared.names.Mid.{Mid}

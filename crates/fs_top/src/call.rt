@@ -10,7 +10,7 @@ ghost use Rattle.fs_core.specs.declared.part.Kind.TheVariants as kind;
 ghost use Rattle.fs_core.specs.declared.wire.Stop.TheVariants as stop;
 ghost use Rattle.smb_link.specs.Came.{seen_by};
 ghost use Rattle.fs_core.specs.Written.{IsAlone};
-ghost use Rattle.fs_core.specs.Course.{Does, IsCreated};
+ghost use Rattle.fs_core.specs.Course.{Does, tally_of, IsCreated};
 ghost use Rattle.fs_top.specs.Runs.{run_options, IsReady, IsAhead, Exchanges, Answers, IsPathOnShare, IsStat, IsStatThere, IsStatOpened, IsStatOpen, IsStatKnown};
 ghost use Rattle.fs_top.specs.Course.{ConversesSo};
 ghost use Rattle.fs_top.specs.Progress.{reads_by, ReadsOn};
@@ -65,7 +65,7 @@ pub(crate) fn stat<S: Source, L: Link, C: Clock>(
 ) -> Result<Answer, Stop>
     requires ready { IsReady client.old.wire }
     ensures answers { Answers (IsStat path.now) number result client.old.wire.next client.new.wire.next (L.story link.old) (L.story link.new) }
-    ensures came { Does (ConversesSo (Talks (IsStat path.now) number) (is_some client.old.ahead.over) (is_some client.new.ahead.over) client.old.wire.received client.new.wire.received result) (seen_by L.story L.connect_faults L.cuts L.quiets link.old) (seen_by L.story L.connect_faults L.cuts L.quiets link.new) }
+    ensures came { Does (ConversesSo (Talks (IsStat path.now) number) (is_some client.old.ahead.over) (is_some client.new.ahead.over) (tally_of client.old.wire) (tally_of client.new.wire) result) (seen_by L.story L.connect_faults L.cuts L.quiets link.old) (seen_by L.story L.connect_faults L.cuts L.quiets link.new) }
     ensures reads { OnOk result (ReadsOn (reads_by S.left S.faults client.old.ahead input.old) (reads_by S.left S.faults client.new.ahead input.new)) }
     ensures ready { IfOk result (λ _. IsReady client.new.wire) }
     ensures ahead { (last : ℕ) → IsAhead last client.old.ahead → IsAhead last client.new.ahead }
@@ -114,7 +114,7 @@ fn stat_short<S: Source, L: Link, C: Clock>(
 ) -> Result<Answer, Stop>
     requires ready { IsReady client.old.wire }
     ensures answers { Answers (IsStatThere path.now) number result client.old.wire.next client.new.wire.next (L.story link.old) (L.story link.new) }
-    ensures came { Does (ConversesSo (Talks (IsStatThere path.now) number) (is_some client.old.ahead.over) (is_some client.new.ahead.over) client.old.wire.received client.new.wire.received result) (seen_by L.story L.connect_faults L.cuts L.quiets link.old) (seen_by L.story L.connect_faults L.cuts L.quiets link.new) }
+    ensures came { Does (ConversesSo (Talks (IsStatThere path.now) number) (is_some client.old.ahead.over) (is_some client.new.ahead.over) (tally_of client.old.wire) (tally_of client.new.wire) result) (seen_by L.story L.connect_faults L.cuts L.quiets link.old) (seen_by L.story L.connect_faults L.cuts L.quiets link.new) }
     ensures reads { OnOk result (ReadsOn (reads_by S.left S.faults client.old.ahead input.old) (reads_by S.left S.faults client.new.ahead input.new)) }
     ensures ready { IfOk result (λ _. IsReady client.new.wire) }
     ensures ahead { (last : ℕ) → IsAhead last client.old.ahead → IsAhead last client.new.ahead }
@@ -139,7 +139,7 @@ fn stat_there<S: Source, L: Link, C: Clock>(
     requires short { length path.now ≤ 32767 }
     requires ready { IsReady client.old.wire }
     ensures answers { Answers (IsStatThere path.now) number result client.old.wire.next client.new.wire.next (L.story link.old) (L.story link.new) }
-    ensures came { Does (ConversesSo (Talks (IsStatThere path.now) number) (is_some client.old.ahead.over) (is_some client.new.ahead.over) client.old.wire.received client.new.wire.received result) (seen_by L.story L.connect_faults L.cuts L.quiets link.old) (seen_by L.story L.connect_faults L.cuts L.quiets link.new) }
+    ensures came { Does (ConversesSo (Talks (IsStatThere path.now) number) (is_some client.old.ahead.over) (is_some client.new.ahead.over) (tally_of client.old.wire) (tally_of client.new.wire) result) (seen_by L.story L.connect_faults L.cuts L.quiets link.old) (seen_by L.story L.connect_faults L.cuts L.quiets link.new) }
     ensures reads { OnOk result (ReadsOn (reads_by S.left S.faults client.old.ahead input.old) (reads_by S.left S.faults client.new.ahead input.new)) }
     ensures ready { IfOk result (λ _. IsReady client.new.wire) }
     ensures ahead { (last : ℕ) → IsAhead last client.old.ahead → IsAhead last client.new.ahead }
@@ -174,7 +174,7 @@ fn stat_opened<S: Source, L: Link, C: Clock>(
     requires created { IsCreated opened }
     requires ready { IsReady client.old.wire }
     ensures answers { Answers (IsStatOpened opened) number result client.old.wire.next client.new.wire.next (L.story link.old) (L.story link.new) }
-    ensures came { Does (ConversesSo (Talks (IsStatOpened opened) number) (is_some client.old.ahead.over) (is_some client.new.ahead.over) client.old.wire.received client.new.wire.received result) (seen_by L.story L.connect_faults L.cuts L.quiets link.old) (seen_by L.story L.connect_faults L.cuts L.quiets link.new) }
+    ensures came { Does (ConversesSo (Talks (IsStatOpened opened) number) (is_some client.old.ahead.over) (is_some client.new.ahead.over) (tally_of client.old.wire) (tally_of client.new.wire) result) (seen_by L.story L.connect_faults L.cuts L.quiets link.old) (seen_by L.story L.connect_faults L.cuts L.quiets link.new) }
     ensures reads { OnOk result (ReadsOn (reads_by S.left S.faults client.old.ahead input.old) (reads_by S.left S.faults client.new.ahead input.new)) }
     ensures ready { IfOk result (λ _. IsReady client.new.wire) }
     ensures ahead { (last : ℕ) → IsAhead last client.old.ahead → IsAhead last client.new.ahead }
@@ -203,7 +203,7 @@ fn stat_open<S: Source, L: Link, C: Clock>(
 ) -> Result<Answer, Stop>
     requires ready { IsReady client.old.wire }
     ensures answers { Answers (IsStatOpen fid) number result client.old.wire.next client.new.wire.next (L.story link.old) (L.story link.new) }
-    ensures came { Does (ConversesSo (Talks (IsStatOpen fid) number) (is_some client.old.ahead.over) (is_some client.new.ahead.over) client.old.wire.received client.new.wire.received result) (seen_by L.story L.connect_faults L.cuts L.quiets link.old) (seen_by L.story L.connect_faults L.cuts L.quiets link.new) }
+    ensures came { Does (ConversesSo (Talks (IsStatOpen fid) number) (is_some client.old.ahead.over) (is_some client.new.ahead.over) (tally_of client.old.wire) (tally_of client.new.wire) result) (seen_by L.story L.connect_faults L.cuts L.quiets link.old) (seen_by L.story L.connect_faults L.cuts L.quiets link.new) }
     ensures reads { OnOk result (ReadsOn (reads_by S.left S.faults client.old.ahead input.old) (reads_by S.left S.faults client.new.ahead input.new)) }
     ensures ready { IfOk result (λ _. IsReady client.new.wire) }
     ensures ahead { (last : ℕ) → IsAhead last client.old.ahead → IsAhead last client.new.ahead }
@@ -238,7 +238,7 @@ fn stat_known<S: Source, L: Link, C: Clock>(
 ) -> Result<Answer, Stop>
     requires ready { IsReady client.old.wire }
     ensures answers { Answers (IsStatKnown fid info.now) number result client.old.wire.next client.new.wire.next (L.story link.old) (L.story link.new) }
-    ensures came { Does (ConversesSo (Talks (IsStatKnown fid info.now) number) (is_some client.old.ahead.over) (is_some client.new.ahead.over) client.old.wire.received client.new.wire.received result) (seen_by L.story L.connect_faults L.cuts L.quiets link.old) (seen_by L.story L.connect_faults L.cuts L.quiets link.new) }
+    ensures came { Does (ConversesSo (Talks (IsStatKnown fid info.now) number) (is_some client.old.ahead.over) (is_some client.new.ahead.over) (tally_of client.old.wire) (tally_of client.new.wire) result) (seen_by L.story L.connect_faults L.cuts L.quiets link.old) (seen_by L.story L.connect_faults L.cuts L.quiets link.new) }
     ensures reads { OnOk result (ReadsOn (reads_by S.left S.faults client.old.ahead input.old) (reads_by S.left S.faults client.new.ahead input.new)) }
     ensures ready { IfOk result (λ _. IsReady client.new.wire) }
     ensures ahead { (last : ℕ) → IsAhead last client.old.ahead → IsAhead last client.new.ahead }
@@ -266,7 +266,8 @@ fn take_place(client: &mut Client, facts: &Facts) -> Result<Place, Stop>
     ensures ready { IsReady client.old.wire → IsReady client.new.wire }
     ensures ahead { client.new.ahead ≡ client.old.ahead }
     ensures received { client.new.wire.received ≡ client.old.wire.received }
-    ensures starved { IfErr result (λ why. (why ≡ stop.Fault kind.Credit) × (client.old.wire.granted ≤ client.old.wire.next)) }
+    ensures granted { client.new.wire.granted ≡ client.old.wire.granted }
+    ensures starved { IfErr result (λ why. (why ≡ stop.Fault kind.Credit) × (client.old.wire.granted ≤ client.old.wire.next) × (client.new.wire.next ≡ client.old.wire.next)) }
 {
     match client.wire.take_id() {
         Some(mid) => Ok(place(facts, mid)),
@@ -313,9 +314,10 @@ fn exchange<S: Source, L: Link, C: Clock>(
     requires command { command_of message.now ≡ command }
     requires mid { mid_of message.now ≡ mid }
     requires low { mid.0 < 2 ^ 64 - 1 }
+    requires taken { client.old.wire.next ≡ mid.0 + 1 }
     ensures opened { IfOk result (λ reply. command ≡ 5 → IsCreated reply) }
     ensures leads { Exchanges number mid message.now result (L.story link.old) (L.story link.new) }
-    ensures came { Does (ConversesSo (ExchangesTo number mid message.now) (is_some client.old.ahead.over) (is_some client.new.ahead.over) client.old.wire.received client.new.wire.received result) (seen_by L.story L.connect_faults L.cuts L.quiets link.old) (seen_by L.story L.connect_faults L.cuts L.quiets link.new) }
+    ensures came { Does (ConversesSo (ExchangesTo number mid message.now) (is_some client.old.ahead.over) (is_some client.new.ahead.over) (record (tally_of client.old.wire) { next = mid.0 }) (tally_of client.new.wire) result) (seen_by L.story L.connect_faults L.cuts L.quiets link.old) (seen_by L.story L.connect_faults L.cuts L.quiets link.new) }
     ensures reads { OnOk result (ReadsOn (reads_by S.left S.faults client.old.ahead input.old) (reads_by S.left S.faults client.new.ahead input.new)) }
     ensures next { client.new.wire.next ≡ client.old.wire.next }
     ensures ready { IfOk result (λ _. IsReady client.new.wire) }

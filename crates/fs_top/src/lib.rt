@@ -9,6 +9,8 @@ mod client;
 mod ending;
 mod listen;
 mod mount;
+#[cfg(test)]
+mod peer_tests;
 mod ping;
 mod print;
 mod request;

@@ -2,12 +2,14 @@
 
 ghost use Rattle.std.specs.Prelude.{◌≡◌, ◌≤◌, ◌+◌, IfOk, IsOk, length};
 ghost use Rattle.smb_head.specs.Header.{head_of};
+ghost use Rattle.fs_core.specs.Judged.{HasBody};
 ghost use Rattle.fs_core.specs.Asking.{IsAsideBody};
 ghost use Rattle.smb_link.specs.Came.{seen_by};
-ghost use Rattle.fs_core.specs.Course.{Does};
+ghost use Rattle.fs_core.specs.Course.{Does, tally_of};
 ghost use Rattle.fs_top.specs.Runs.{IsReady, RestsOrLeaves, Joins};
 ghost use Rattle.fs_top.specs.RunEndings.{mount_end};
 ghost use Rattle.fs_top.specs.MountCourse.{MountedBy, SetsUpSession, AnswersChallenge, Greets, SetsUp, Authenticates, ConnectsTree};
+ghost use Rattle.fs_top.specs.MountFailure.{MountFails, SessionFails, ChallengeFails, NegotiateFails, SetUpFails, AuthenticateFails, TreeFails};
 ghost use Rattle.fs_top.specs.Course.{StepsSo, AsksSo, TellsSo, BothSo, LeavesSo, JoinsSo};
 
 use crate::client::{Client, PATIENCE};
@@ -47,7 +49,7 @@ pub(crate) fn mount<L: Link, C: Clock>(
 ) -> Result<Mounted, End>
     requires ready { IsReady client.old.wire }
     ensures leads { RestsOrLeaves result client.old.wire.next client.new.wire.next (L.story link.old) (L.story link.new) }
-    ensures came { Does (StepsSo (MountedBy state) client.old.wire.next client.old.wire.received client.new.wire.received result) (seen_by L.story L.connect_faults L.cuts L.quiets link.old) (seen_by L.story L.connect_faults L.cuts L.quiets link.new) }
+    ensures came { Does (StepsSo (MountedBy state) (MountFails state) client.old.wire.next (tally_of client.old.wire) (tally_of client.new.wire) result) (seen_by L.story L.connect_faults L.cuts L.quiets link.old) (seen_by L.story L.connect_faults L.cuts L.quiets link.new) }
     ensures ready { IfOk result (λ _. IsReady client.new.wire) }
     ensures ahead { client.new.ahead ≡ client.old.ahead }
 {
@@ -67,7 +69,7 @@ fn set_up_session<L: Link, C: Clock>(
 ) -> Result<Mounted, End>
     requires ready { IsReady client.old.wire }
     ensures leads { RestsOrLeaves result client.old.wire.next client.new.wire.next (L.story link.old) (L.story link.new) }
-    ensures came { Does (StepsSo (SetsUpSession state) client.old.wire.next client.old.wire.received client.new.wire.received result) (seen_by L.story L.connect_faults L.cuts L.quiets link.old) (seen_by L.story L.connect_faults L.cuts L.quiets link.new) }
+    ensures came { Does (StepsSo (SetsUpSession state) (SessionFails state) client.old.wire.next (tally_of client.old.wire) (tally_of client.new.wire) result) (seen_by L.story L.connect_faults L.cuts L.quiets link.old) (seen_by L.story L.connect_faults L.cuts L.quiets link.new) }
     ensures ready { IfOk result (λ _. IsReady client.new.wire) }
     ensures ahead { client.new.ahead ≡ client.old.ahead }
 {
@@ -90,7 +92,7 @@ fn answer_challenge<L: Link, C: Clock>(
 ) -> Result<Mounted, End>
     requires ready { IsReady client.old.wire }
     ensures leads { RestsOrLeaves result client.old.wire.next client.new.wire.next (L.story link.old) (L.story link.new) }
-    ensures came { Does (StepsSo (AnswersChallenge state) client.old.wire.next client.old.wire.received client.new.wire.received result) (seen_by L.story L.connect_faults L.cuts L.quiets link.old) (seen_by L.story L.connect_faults L.cuts L.quiets link.new) }
+    ensures came { Does (StepsSo (AnswersChallenge state) (ChallengeFails state) client.old.wire.next (tally_of client.old.wire) (tally_of client.new.wire) result) (seen_by L.story L.connect_faults L.cuts L.quiets link.old) (seen_by L.story L.connect_faults L.cuts L.quiets link.new) }
     ensures ready { IfOk result (λ _. IsReady client.new.wire) }
     ensures ahead { client.new.ahead ≡ client.old.ahead }
 {
@@ -110,7 +112,7 @@ fn negotiate<L: Link, C: Clock>(
 ) -> Result<Negotiated, End>
     requires ready { IsReady client.old.wire }
     ensures leads { RestsOrLeaves result client.old.wire.next client.new.wire.next (L.story link.old) (L.story link.new) }
-    ensures came { Does (StepsSo (Greets state) client.old.wire.next client.old.wire.received client.new.wire.received result) (seen_by L.story L.connect_faults L.cuts L.quiets link.old) (seen_by L.story L.connect_faults L.cuts L.quiets link.new) }
+    ensures came { Does (StepsSo (Greets state) (NegotiateFails state) client.old.wire.next (tally_of client.old.wire) (tally_of client.new.wire) result) (seen_by L.story L.connect_faults L.cuts L.quiets link.old) (seen_by L.story L.connect_faults L.cuts L.quiets link.new) }
     ensures next { IfOk result (λ _. client.new.wire.next ≡ client.old.wire.next + 1) }
     ensures ready { IfOk result (λ _. IsReady client.new.wire) }
     ensures ahead { client.new.ahead ≡ client.old.ahead }
@@ -139,7 +141,7 @@ fn set_up<L: Link, C: Clock>(
 ) -> Result<SetUp, End>
     requires ready { IsReady client.old.wire }
     ensures leads { RestsOrLeaves result client.old.wire.next client.new.wire.next (L.story link.old) (L.story link.new) }
-    ensures came { Does (StepsSo (SetsUp state) client.old.wire.next client.old.wire.received client.new.wire.received result) (seen_by L.story L.connect_faults L.cuts L.quiets link.old) (seen_by L.story L.connect_faults L.cuts L.quiets link.new) }
+    ensures came { Does (StepsSo (SetsUp state) (SetUpFails state) client.old.wire.next (tally_of client.old.wire) (tally_of client.new.wire) result) (seen_by L.story L.connect_faults L.cuts L.quiets link.old) (seen_by L.story L.connect_faults L.cuts L.quiets link.new) }
     ensures next { IfOk result (λ _. client.new.wire.next ≡ client.old.wire.next + 1) }
     ensures ready { IfOk result (λ _. IsReady client.new.wire) }
     ensures ahead { client.new.ahead ≡ client.old.ahead }
@@ -168,7 +170,7 @@ fn authenticate<L: Link, C: Clock>(
 ) -> Result<Authenticated, End>
     requires ready { IsReady client.old.wire }
     ensures leads { RestsOrLeaves result client.old.wire.next client.new.wire.next (L.story link.old) (L.story link.new) }
-    ensures came { Does (StepsSo (Authenticates state) client.old.wire.next client.old.wire.received client.new.wire.received result) (seen_by L.story L.connect_faults L.cuts L.quiets link.old) (seen_by L.story L.connect_faults L.cuts L.quiets link.new) }
+    ensures came { Does (StepsSo (Authenticates state) (AuthenticateFails state) client.old.wire.next (tally_of client.old.wire) (tally_of client.new.wire) result) (seen_by L.story L.connect_faults L.cuts L.quiets link.old) (seen_by L.story L.connect_faults L.cuts L.quiets link.new) }
     ensures next { IfOk result (λ _. client.new.wire.next ≡ client.old.wire.next + 1) }
     ensures ready { IfOk result (λ _. IsReady client.new.wire) }
     ensures ahead { client.new.ahead ≡ client.old.ahead }
@@ -197,7 +199,7 @@ fn connect_tree<L: Link, C: Clock>(
 ) -> Result<Mounted, End>
     requires ready { IsReady client.old.wire }
     ensures leads { RestsOrLeaves result client.old.wire.next client.new.wire.next (L.story link.old) (L.story link.new) }
-    ensures came { Does (StepsSo (ConnectsTree state) client.old.wire.next client.old.wire.received client.new.wire.received result) (seen_by L.story L.connect_faults L.cuts L.quiets link.old) (seen_by L.story L.connect_faults L.cuts L.quiets link.new) }
+    ensures came { Does (StepsSo (ConnectsTree state) (TreeFails state) client.old.wire.next (tally_of client.old.wire) (tally_of client.new.wire) result) (seen_by L.story L.connect_faults L.cuts L.quiets link.old) (seen_by L.story L.connect_faults L.cuts L.quiets link.new) }
     ensures ready { IfOk result (λ _. IsReady client.new.wire) }
     ensures ahead { client.new.ahead ≡ client.old.ahead }
 {
@@ -225,7 +227,7 @@ pub(crate) fn leave<L: Link, C: Clock>(
 ) -> Result<(), End>
     requires ready { IsReady client.old.wire }
     ensures leads { RestsOrLeaves result client.old.wire.next client.new.wire.next (L.story link.old) (L.story link.new) }
-    ensures came { Does (LeavesSo mounted client.old.wire.next client.old.wire.received client.new.wire.received result) (seen_by L.story L.connect_faults L.cuts L.quiets link.old) (seen_by L.story L.connect_faults L.cuts L.quiets link.new) }
+    ensures came { Does (LeavesSo mounted client.old.wire.next (tally_of client.old.wire) (tally_of client.new.wire) result) (seen_by L.story L.connect_faults L.cuts L.quiets link.old) (seen_by L.story L.connect_faults L.cuts L.quiets link.new) }
 {
     match mounted.leave(alloc) {
         Ok(requests) => leave_by(alloc, link, clock, client, &requests[0], &requests[1]),
@@ -246,7 +248,7 @@ fn leave_by<L: Link, C: Clock>(
     requires short { (length first.now.body ≤ 100000) × (length second.now.body ≤ 100000) }
     ensures leads { IsAsideBody first.now.command first.now.body → IsAsideBody second.now.command second.now.body
         → RestsOrLeaves result client.old.wire.next client.new.wire.next (L.story link.old) (L.story link.new) }
-    ensures came { Does (BothSo first.now second.now client.old.wire.next client.old.wire.received client.new.wire.received result) (seen_by L.story L.connect_faults L.cuts L.quiets link.old) (seen_by L.story L.connect_faults L.cuts L.quiets link.new) }
+    ensures came { Does (BothSo first.now second.now client.old.wire.next (tally_of client.old.wire) (tally_of client.new.wire) result) (seen_by L.story L.connect_faults L.cuts L.quiets link.old) (seen_by L.story L.connect_faults L.cuts L.quiets link.new) }
 {
     match told(alloc, link, clock, client, first) {
         Ok(()) => told(alloc, link, clock, client, second),
@@ -266,7 +268,7 @@ fn told<L: Link, C: Clock>(
     requires short { length request.now.body ≤ 100000 }
     ensures leads { IsAsideBody request.now.command request.now.body
         → RestsOrLeaves result client.old.wire.next client.new.wire.next (L.story link.old) (L.story link.new) }
-    ensures came { Does (TellsSo request.now client.old.wire.next client.old.wire.received client.new.wire.received result) (seen_by L.story L.connect_faults L.cuts L.quiets link.old) (seen_by L.story L.connect_faults L.cuts L.quiets link.new) }
+    ensures came { Does (TellsSo request.now client.old.wire.next (tally_of client.old.wire) (tally_of client.new.wire) result) (seen_by L.story L.connect_faults L.cuts L.quiets link.old) (seen_by L.story L.connect_faults L.cuts L.quiets link.new) }
     ensures next { IfOk result (λ _. client.new.wire.next ≡ client.old.wire.next + 1) }
     ensures ready { IfOk result (λ _. IsReady client.new.wire) }
 {
@@ -288,8 +290,9 @@ fn asked<L: Link, C: Clock>(
     requires short { length request.now.body ≤ 100000 }
     ensures leads { IsAsideBody request.now.command request.now.body
         → RestsOrLeaves result client.old.wire.next client.new.wire.next (L.story link.old) (L.story link.new) }
-    ensures came { Does (AsksSo request.now client.old.wire.next client.old.wire.received client.new.wire.received result) (seen_by L.story L.connect_faults L.cuts L.quiets link.old) (seen_by L.story L.connect_faults L.cuts L.quiets link.new) }
+    ensures came { Does (AsksSo request.now client.old.wire.next (tally_of client.old.wire) (tally_of client.new.wire) result) (seen_by L.story L.connect_faults L.cuts L.quiets link.old) (seen_by L.story L.connect_faults L.cuts L.quiets link.new) }
     ensures head { IfOk result (λ part. IsOk (head_of part)) }
+    ensures body { IfOk result (HasBody request.now.command) }
     ensures next { IfOk result (λ _. client.new.wire.next ≡ client.old.wire.next + 1) }
     ensures ready { IfOk result (λ _. IsReady client.new.wire) }
     ensures ahead { client.new.ahead ≡ client.old.ahead }

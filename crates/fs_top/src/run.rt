@@ -12,11 +12,12 @@ ghost use Rattle.fs_plain.specs.View.{no_view};
 ghost use Rattle.fs_core.specs.Exchange.{resting};
 ghost use Rattle.fs_top.specs.SharePath.{share_path};
 ghost use Rattle.smb_link.specs.Came.{seen_by, Came};
-ghost use Rattle.fs_core.specs.Course.{Does};
+ghost use Rattle.fs_core.specs.Course.{Does, tally_of};
 ghost use Rattle.fs_top.specs.Printing.{held_by};
 ghost use Rattle.fs_top.specs.MountCourse.{start_of};
-ghost use Rattle.fs_top.specs.Course.{AnswersAllSo, AnswersOneSo, BeginsSo, PrintsSo, GivesUpSo, ServesSo, MountsSo, RunSo};
-ghost use Rattle.fs_top.specs.Runs.{status_of, IsReady, IsAhead, Finishes, AnswersLine, AnswersAll, AnswerTold, GivesUp, BeginsLine, errno_by};
+ghost use Rattle.fs_top.specs.Course.{AnswersAllSo, AnswersOneSo, BeginsSo, PrintsSo, GivesUpSo, ServesSo};
+ghost use Rattle.fs_top.specs.RunCourse.{MountsSo, RunSo};
+ghost use Rattle.fs_top.specs.Runs.{IsReady, IsAhead, Finishes, AnswersLine, AnswersAll, AnswerTold, GivesUp, BeginsLine, errno_by};
 ghost use Rattle.fs_top.specs.Script.{end_by, over_of, coming_of, to_come};
 ghost use Rattle.fs_top.specs.Progress.{reads_by, ReadsOn};
 
@@ -47,7 +48,7 @@ pub(crate) fn run_script<S: Source, K: Sink, L: Link, C: Clock>(
 ) -> End
     requires short { (length host.now ≤ 255) × (length share.now ≤ 255) }
     ensures came { Does (RunSo (start_of seed host.now share.now) (option_map coming_of (S.left input.old)) (S.faults input.old) (S.faults input.new) (L.stands link.old) result (held_by K.written K.faults K.stalls out.old) (held_by K.written K.faults K.stalls out.new)) (seen_by L.story L.connect_faults L.cuts L.quiets link.old) (seen_by L.story L.connect_faults L.cuts L.quiets link.new) }
-    ensures finishes { L.stands link.old ≡ false → Finishes seed (status_of result) no_view (L.story link.old) (L.story link.new) }
+    ensures finishes { L.stands link.old ≡ false → Finishes seed result no_view (L.story link.old) (L.story link.new) }
 {
     let path = match share_path(alloc, host, share) {
         Ok(path) => path,
@@ -77,7 +78,7 @@ fn run_joined<S: Source, K: Sink, L: Link, C: Clock>(
     state: New,
     seed: [u8; 16],
 ) -> End
-    ensures finishes { Finishes seed (status_of result) (resting [] [] 0) (L.story link.old) (L.story link.new) }
+    ensures finishes { Finishes seed result (resting [] [] 0) (L.story link.old) (L.story link.new) }
     ensures came { Does (MountsSo state (option_map coming_of (S.left input.old)) (S.faults input.old) (S.faults input.new) result (held_by K.written K.faults K.stalls out.old) (held_by K.written K.faults K.stalls out.new)) (seen_by L.story L.connect_faults L.cuts L.quiets link.old) (seen_by L.story L.connect_faults L.cuts L.quiets link.new) }
 {
     let mut client = Client::new(alloc);
@@ -132,8 +133,8 @@ fn serve<S: Source, K: Sink, L: Link, C: Clock>(
     requires ready { IsReady client.old.wire }
     requires ahead { IsAhead 0 client.old.ahead }
     requires more { client.old.ahead.over ≡ None }
-    ensures finishes { Finishes seed (status_of result) (resting [] [] client.old.wire.next) (L.story link.old) (L.story link.new) }
-    ensures came { Does (ServesSo mounted (to_come client.old.ahead (S.left input.old)) (S.faults input.old) (S.faults input.new) (is_some client.old.ahead.over) client.old.wire.received result (held_by K.written K.faults K.stalls out.old) (held_by K.written K.faults K.stalls out.new)) (seen_by L.story L.connect_faults L.cuts L.quiets link.old) (seen_by L.story L.connect_faults L.cuts L.quiets link.new) }
+    ensures finishes { Finishes seed result (resting [] [] client.old.wire.next) (L.story link.old) (L.story link.new) }
+    ensures came { Does (ServesSo mounted (to_come client.old.ahead (S.left input.old)) (S.faults input.old) (S.faults input.new) (is_some client.old.ahead.over) (tally_of client.old.wire) result (held_by K.written K.faults K.stalls out.old) (held_by K.written K.faults K.stalls out.new)) (seen_by L.story L.connect_faults L.cuts L.quiets link.old) (seen_by L.story L.connect_faults L.cuts L.quiets link.new) }
 {
     let facts = mounted.facts();
     match answer_all(alloc, input, out, link, clock, client, &facts) {
@@ -169,11 +170,11 @@ fn answer_all<S: Source, K: Sink, L: Link, C: Clock>(
     requires ready { IsReady client.old.wire }
     requires ahead { IsAhead 0 client.old.ahead }
     requires more { client.old.ahead.over ≡ None }
-    ensures came { Does (AnswersAllSo (to_come client.old.ahead (S.left input.old)) (S.faults input.old) (S.faults input.new) (is_some client.old.ahead.over) (is_some client.new.ahead.over) client.old.wire.received client.new.wire.received result (held_by K.written K.faults K.stalls out.old) (held_by K.written K.faults K.stalls out.new)) (seen_by L.story L.connect_faults L.cuts L.quiets link.old) (seen_by L.story L.connect_faults L.cuts L.quiets link.new) }
+    ensures came { Does (AnswersAllSo (to_come client.old.ahead (S.left input.old)) (S.faults input.old) (S.faults input.new) (is_some client.old.ahead.over) (is_some client.new.ahead.over) (tally_of client.old.wire) (tally_of client.new.wire) result (held_by K.written K.faults K.stalls out.old) (held_by K.written K.faults K.stalls out.new)) (seen_by L.story L.connect_faults L.cuts L.quiets link.old) (seen_by L.story L.connect_faults L.cuts L.quiets link.new) }
     ensures answers { AnswersAll result client.old.wire.next client.new.wire.next (L.story link.old) (L.story link.new) }
     ensures ready { IfOk result (λ _. IsReady client.new.wire) }
 {
-    for _ in 0..u64::MAX {
+    for _line in 0..u64::MAX {
         match client.ahead.look(alloc, input, link) {
             Ok(()) => {}
             Err(NoMemory) => return Err(End::Memory),
@@ -212,7 +213,7 @@ fn answer_one<S: Source, K: Sink, L: Link, C: Clock>(
 ) -> Result<(), End>
     requires ready { IsReady client.old.wire }
     requires more { client.old.ahead.over ≡ None }
-    ensures came { Does (AnswersOneSo (is_some client.old.ahead.over) (is_some client.new.ahead.over) client.old.wire.received client.new.wire.received asked result (held_by K.written K.faults K.stalls out.old) (held_by K.written K.faults K.stalls out.new)) (seen_by L.story L.connect_faults L.cuts L.quiets link.old) (seen_by L.story L.connect_faults L.cuts L.quiets link.new) }
+    ensures came { Does (AnswersOneSo (is_some client.old.ahead.over) (is_some client.new.ahead.over) (tally_of client.old.wire) (tally_of client.new.wire) asked result (held_by K.written K.faults K.stalls out.old) (held_by K.written K.faults K.stalls out.new)) (seen_by L.story L.connect_faults L.cuts L.quiets link.old) (seen_by L.story L.connect_faults L.cuts L.quiets link.new) }
     ensures reads { OnOk result (ReadsOn (reads_by S.left S.faults client.old.ahead input.old) (reads_by S.left S.faults client.new.ahead input.new)) }
     ensures answers { AnswersLine asked.number result client.old.wire.next client.new.wire.next (L.story link.old) (L.story link.new) }
     ensures ready { IfOk result (λ _. IsReady client.new.wire) }
@@ -307,7 +308,7 @@ fn given_up<K: Sink, L: Link>(
     number: u64,
     end: End,
 ) -> End
-    ensures gives_up { GivesUp number result (L.story link.old) (L.story link.new) }
+    ensures gives_up { GivesUp number end result (L.story link.old) (L.story link.new) }
     ensures came { Does (GivesUpSo number end result (held_by K.written K.faults K.stalls out.old) (held_by K.written K.faults K.stalls out.new)) (seen_by L.story L.connect_faults L.cuts L.quiets link.old) (seen_by L.story L.connect_faults L.cuts L.quiets link.new) }
 {
     match errno_by(end) {

@@ -7,10 +7,11 @@ ghost use Rattle.smb_link.specs.Came.{seen_by, Came};
 ghost use Rattle.fs_top.specs.Counts.{ByCounts};
 ghost use Rattle.fs_top.specs.Printing.{held_by, TookAll, TookFront};
 ghost use Rattle.fs_plain.specs.Answered.{ended_by};
-ghost use Rattle.fs_plain.specs.Moves.{PlainAnswers};
+ghost use Rattle.fs_plain.specs.Moves.{PlainAnswers, CleanEnds};
 ghost use Rattle.fs_top.specs.Run.{Ran, Causes, Printed};
 ghost use Rattle.fs_top.specs.RunEndings.{PrintedEnd};
-ghost use Rattle.fs_top.specs.Course.{RunEnds};
+ghost use Rattle.fs_top.specs.RunCourse.{RunEnds};
+ghost use Rattle.fs_top.specs.Completeness.{Completes};
 ghost use Rattle.fs_top.specs.Script.{coming_of};
 ghost use Rattle.fs_top.specs.Runs.{run_options, status_of};
 ghost use Rattle.fs_top.specs.MountCourse.{start_of};
@@ -71,6 +72,17 @@ pub fn smbfs<S: Source, K: Sink, L: Link, C: Clock>(
     // like it, the plain client has the same answers, and so have the others.
     ensures plain { AreRun (map string_bytes words.now.items) → L.stands link.old ≡ false → L.story link.old ≡ Some []
         → PlainAnswers run_options seed result (L.story link.new) }
+
+    // And it leaves the share clean: at the statuses 0, 2 and 7 with the files and names that the plain client leaves, and no open of its
+    // own.
+    ensures clean { AreRun (map string_bytes words.now.items) → L.stands link.old ≡ false → L.story link.old ≡ Some []
+        → CleanEnds run_options seed result (L.story link.new) }
+
+    // A valid script is carried out, on an honest share and a connection that lets it: the status is 0, or 3 for want of memory.
+    ensures completes { (host : List ℕ) (port : ℕ) (share : List ℕ) → IsRun (map string_bytes words.now.items) host port share
+        → L.stands link.old ≡ false → L.story link.old ≡ Some []
+        → Completes (start_of seed host share) (option_map coming_of (S.left input.old)) (S.faults input.old) (S.faults input.new)
+        (held_by K.written K.faults K.stalls out.old) (held_by K.written K.faults K.stalls out.new) (L.story link.new) result }
 {
     match read_run(words) {
         Some((host, port, share)) => {

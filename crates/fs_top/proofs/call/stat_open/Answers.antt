@@ -1,20 +1,22 @@
+use Rattle.fs_core.specs.Course.{tally_of}
+use Rattle.fs_top.proofs.Exchanging.{before_taking, nothing_taken}
 use Rattle.fs_top.specs.Talks.{Talks, ExchangesTo}
 use Rattle.fs_top.proofs.Talking.{talks_on}
 use Rattle.std.proofs.Common.{◌+◌, ◌∙◌, sym, ap, ℕ}
 use Rattle.fs_top.specs.Runs.{IsStatOpen, IsStatKnown}
-use Rattle.fs_top.proofs.Calling.{answers_nothing, answers_on, answers_break, query_next, query_lands}
+use Rattle.fs_top.proofs.Calling.{answers_nothing, answers_starved, answers_on, answers_break, query_next, query_lands}
 use Rattle.smb_link.specs.Came.{seen_by}
 use Rattle.std.specs.Prelude.{is_some}
-use Rattle.share_spec.specs.declared.request.Rep.{Rep}
-use Rattle.fs_types.specs.declared.answer.Answer.{Answer}
 use Rattle.fs_top.specs.declared.ahead.Ahead.{Ahead}
-use Rattle.fs_top.proofs.Courses.{converses_starved, converses_memory, converses_stop, converses_after, converses_last}
+use Rattle.fs_top.proofs.Courses.{converses_starved, converses_memory, converses_stop, converses_after}
 use Rattle.fs_top.specs.Progress.{reads_by}
 use Rattle.fs_top.proofs.Progressing.{reads_from, reads_after}
+use Rattle.fs_core.specs.Foul.{foul_stop}
 use Rattle.fs_top.proofs.call.stat_open.Goals as goal
 
 pub returns-in-Err-clause-answers : goal.returns-in-Err-clause-answers
-returns-in-Err-clause-answers g c = answers_nothing (IsStatOpen c.args.fid) c.args.number c.args.client.now.wire.next (g.L.Link.story c.args.link.now)
+returns-in-Err-clause-answers g c =
+    answers_starved (IsStatOpen c.args.fid) c.args.number c.args.client.now.wire.next c.take_place.new.client.wire.next c.in-Err.stop (g.L.Link.story c.args.link.now) c.in-Err.ensures.starved.0
 
 pub returns-in-Err-query_message-clause-answers : goal.returns-in-Err-query_message-clause-answers
 returns-in-Err-query_message-clause-answers g c = answers_nothing (IsStatOpen c.args.fid) c.args.number c.args.client.now.wire.next (g.L.Link.story c.args.link.now)
@@ -32,34 +34,34 @@ returns-in-Ok-exchange-clause-answers g c =
 
 pub returns-clause-answers : goal.returns-clause-answers
 returns-clause-answers g c =
-    answers_break (IsStatOpen c.args.fid) c.args.number c.args.client.now.wire.next c.in-Ok.place.mid c.in-Ok-query_message.message (g.L.Link.story c.args.link.now) (g.L.Link.story c.exchange.new.link)
+    answers_break (IsStatOpen c.args.fid) c.args.number c.args.client.now.wire.next c.in-Ok.place.mid c.in-Ok-query_message.message (foul_stop c.in-Err-exchange.stop) (g.L.Link.story c.args.link.now) (g.L.Link.story c.exchange.new.link)
     (sym c.in-Ok.ensures.mid.0)
     (query_next c.args.fid c.in-Ok.place.mid c.in-Ok-query_message.message c.in-Ok-query_message.ensures.asked c.in-Ok-query_message.ensures.mid)
     c.in-Err-exchange.ensures.leads
 
 pub returns-in-Err-clause-came : goal.returns-in-Err-clause-came
 returns-in-Err-clause-came g c =
-    converses_starved (Talks (IsStatOpen c.args.fid) c.args.number) (is_some c.args.client.now.ahead.over) (is_some c.take_place.new.client.ahead.over) c.args.client.now.wire.received c.take_place.new.client.wire.received c.in-Err.stop (seen_by g.L.Link.story g.L.Link.connect_faults g.L.Link.cuts g.L.Link.quiets c.args.link.now)
-    c.in-Err.ensures.received c.in-Err.ensures.starved.0
+    converses_starved (Talks (IsStatOpen c.args.fid) c.args.number) (is_some c.args.client.now.ahead.over) (is_some c.take_place.new.client.ahead.over) (tally_of c.args.client.now.wire) (tally_of c.take_place.new.client.wire) c.in-Err.stop (seen_by g.L.Link.story g.L.Link.connect_faults g.L.Link.cuts g.L.Link.quiets c.args.link.now)
+    (nothing_taken c.args.client.now.wire c.take_place.new.client.wire c.in-Err.ensures.received c.in-Err.ensures.granted c.in-Err.ensures.starved.2) c.in-Err.ensures.starved.0 c.in-Err.ensures.starved.1
 
 pub returns-in-Err-query_message-clause-came : goal.returns-in-Err-query_message-clause-came
 returns-in-Err-query_message-clause-came g c =
-    converses_memory (Talks (IsStatOpen c.args.fid) c.args.number) (is_some c.args.client.now.ahead.over) (is_some c.take_place.new.client.ahead.over) c.args.client.now.wire.received c.take_place.new.client.wire.received (seen_by g.L.Link.story g.L.Link.connect_faults g.L.Link.cuts g.L.Link.quiets c.args.link.now)
+    converses_memory (Talks (IsStatOpen c.args.fid) c.args.number) (is_some c.args.client.now.ahead.over) (is_some c.take_place.new.client.ahead.over) (tally_of c.args.client.now.wire) (tally_of c.take_place.new.client.wire) (seen_by g.L.Link.story g.L.Link.connect_faults g.L.Link.cuts g.L.Link.quiets c.args.link.now)
 
 pub returns-clause-came : goal.returns-clause-came
 returns-clause-came g c =
     let seen = seen_by g.L.Link.story g.L.Link.connect_faults g.L.Link.cuts g.L.Link.quiets in
     converses_stop (ExchangesTo c.args.number c.in-Ok.place.mid c.in-Ok-query_message.message) (Talks (IsStatOpen c.args.fid) c.args.number) c.in-Err-exchange.stop (is_some c.args.client.now.ahead.over) (is_some c.take_place.new.client.ahead.over) (is_some c.exchange.new.client.ahead.over) (is_some c.exchange.new.client.ahead.over)
-    c.args.client.now.wire.received c.take_place.new.client.wire.received c.exchange.new.client.wire.received (seen c.args.link.now) (seen c.exchange.new.link)
-    (ap (λ (a : Ahead). is_some a.over) c.in-Ok.ensures.ahead) c.in-Ok.ensures.received c.in-Err-exchange.ensures.came
+    (tally_of c.args.client.now.wire) (record (tally_of c.take_place.new.client.wire) { next = c.in-Ok.place.mid.0 }) (tally_of c.exchange.new.client.wire) (seen c.args.link.now) (seen c.exchange.new.link)
+    (ap (λ (a : Ahead). is_some a.over) c.in-Ok.ensures.ahead) (before_taking c.args.client.now.wire c.take_place.new.client.wire c.in-Ok.place.mid c.in-Ok.ensures.received c.in-Ok.ensures.granted c.in-Ok.ensures.mid.0) c.in-Err-exchange.ensures.came
 
 pub returns-in-Ok-exchange-clause-came : goal.returns-in-Ok-exchange-clause-came
 returns-in-Ok-exchange-clause-came g c =
     let seen = seen_by g.L.Link.story g.L.Link.connect_faults g.L.Link.cuts g.L.Link.quiets in
     converses_after c.in-Ok-exchange.info c.stat_known.result (ExchangesTo c.args.number c.in-Ok.place.mid c.in-Ok-query_message.message) (Talks (IsStatKnown c.args.fid c.in-Ok-exchange.info) c.args.number) (Talks (IsStatOpen c.args.fid) c.args.number) (is_some c.args.client.now.ahead.over) (is_some c.take_place.new.client.ahead.over) (is_some c.exchange.new.client.ahead.over) (is_some c.stat_known.new.client.ahead.over)
-    c.args.client.now.wire.received c.take_place.new.client.wire.received c.exchange.new.client.wire.received c.stat_known.new.client.wire.received
+    (tally_of c.args.client.now.wire) (record (tally_of c.take_place.new.client.wire) { next = c.in-Ok.place.mid.0 }) (tally_of c.exchange.new.client.wire) (tally_of c.stat_known.new.client.wire)
     (seen c.args.link.now) (seen c.exchange.new.link) (seen c.stat_known.new.link)
-    (ap (λ (a : Ahead). is_some a.over) c.in-Ok.ensures.ahead) c.in-Ok.ensures.received
+    (ap (λ (a : Ahead). is_some a.over) c.in-Ok.ensures.ahead) (before_taking c.args.client.now.wire c.take_place.new.client.wire c.in-Ok.place.mid c.in-Ok.ensures.received c.in-Ok.ensures.granted c.in-Ok.ensures.mid.0)
     (λ a xs ys one later. talks_on (IsStatOpen c.args.fid) (IsStatKnown c.args.fid c.in-Ok-exchange.info) c.args.number c.in-Ok.place.mid c.in-Ok-query_message.message c.in-Ok-exchange.info a xs ys (query_next c.args.fid c.in-Ok.place.mid c.in-Ok-query_message.message c.in-Ok-query_message.ensures.asked c.in-Ok-query_message.ensures.mid) (query_lands c.args.fid c.in-Ok.place.mid c.in-Ok-exchange.info) one later)
     c.in-Ok-exchange.ensures.came c.stat_known.ensures.came
 

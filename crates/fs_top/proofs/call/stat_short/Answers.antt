@@ -1,9 +1,9 @@
+use Rattle.fs_core.specs.Course.{tally_of}
 use Rattle.fs_top.specs.Talks.{Talks}
 use Rattle.fs_top.specs.Runs.{IsStatThere}
 use Rattle.fs_top.proofs.Calling.{answers_nothing}
 use Rattle.smb_link.specs.Came.{seen_by}
 use Rattle.std.specs.Prelude.{is_some}
-use Rattle.fs_types.specs.declared.answer.Answer.{Answer}
 use Rattle.fs_top.proofs.Courses.{converses_memory}
 use Rattle.fs_top.proofs.call.stat_short.Goals as goal
 
@@ -12,4 +12,4 @@ returns-then-len-gt-MOST_UNITS-clause-answers g c = answers_nothing (IsStatThere
 
 pub returns-then-len-gt-MOST_UNITS-clause-came : goal.returns-then-len-gt-MOST_UNITS-clause-came
 returns-then-len-gt-MOST_UNITS-clause-came g c =
-    converses_memory (Talks (IsStatThere c.args.path.now) c.args.number) (is_some c.args.client.now.ahead.over) (is_some c.args.client.now.ahead.over) c.args.client.now.wire.received c.args.client.now.wire.received (seen_by g.L.Link.story g.L.Link.connect_faults g.L.Link.cuts g.L.Link.quiets c.args.link.now)
+    converses_memory (Talks (IsStatThere c.args.path.now) c.args.number) (is_some c.args.client.now.ahead.over) (is_some c.args.client.now.ahead.over) (tally_of c.args.client.now.wire) (tally_of c.args.client.now.wire) (seen_by g.L.Link.story g.L.Link.connect_faults g.L.Link.cuts g.L.Link.quiets c.args.link.now)

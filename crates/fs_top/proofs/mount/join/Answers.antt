@@ -3,7 +3,6 @@ use Rattle.smb_link.specs.declared.faults.LinkFail.{LinkFail}
 use Rattle.smb_link.specs.Story.{GainsByConnect, StandsAfterConnect, connect_events}
 use Rattle.smb_link.specs.Came.{seen_by, Came}
 use Rattle.smb_link.proofs.CameLaws.{came_connect}
-use Rattle.fs_top.specs.declared.run_end.End.TheVariants as end
 use Rattle.fs_top.proofs.Mounting.{tries_start, tries_join, tries_on, tries_break, tries_end}
 use Rattle.fs_top.proofs.Connecting.{tried_none, tried_more, tried_joined, tried_memory, tried_all}
 use Rattle.fs_top.proofs.mount.join.Goals as goal
@@ -30,7 +29,7 @@ returns-in-Err-NoMemory g c =
     let e = c.in-Err-NoMemory.ensures in
     let stands = g.L.Link.stands in
     record {
-      joins = tries_break (g.L.Link.stands c.args.link.now) (g.L.Link.stands c.loop-tried.link) (g.L.Link.stands c.connect.new.self) end.Memory (g.L.Link.story c.args.link.now) (g.L.Link.story c.loop-tried.link) (g.L.Link.story c.connect.new.self) c.loop-tried.invariant.0
+      joins = tries_break (g.L.Link.stands c.args.link.now) (g.L.Link.stands c.loop-tried.link) (g.L.Link.stands c.connect.new.self) (g.L.Link.story c.args.link.now) (g.L.Link.story c.loop-tried.link) (g.L.Link.story c.connect.new.self) c.loop-tried.invariant.0
           (subst (λ (f : LinkFail). GainsByConnect (g.L.Link.stands c.loop-tried.link) (g.L.Link.stands c.connect.new.self) (Err f) (g.L.Link.story c.loop-tried.link) (g.L.Link.story c.connect.new.self)) c.in-Err-NoMemory.field-0-is e.story);
       came = tried_memory (g.L.Link.stands c.args.link.now) (g.L.Link.stands c.loop-tried.link) (g.L.Link.stands c.connect.new.self) c.loop-tried._tried (seen c.args.link.now) (seen c.loop-tried.link) (seen c.connect.new.self) c.loop-tried.invariant.1
           (subst (λ (f : LinkFail). Came (connect_events (stands c.loop-tried.link) (stands c.connect.new.self) (Err f)) (seen c.loop-tried.link) (seen c.connect.new.self)) c.in-Err-NoMemory.field-0-is
@@ -55,7 +54,7 @@ loop-tried-preserved g c =
 
 pub returns : goal.returns
 returns g c = record {
-  joins = tries_end (g.L.Link.stands c.args.link.now) (g.L.Link.stands c.loop-tried.link) (end.Connects 4) (g.L.Link.story c.args.link.now) (g.L.Link.story c.loop-tried.link) c.loop-tried.invariant.0;
+  joins = tries_end (g.L.Link.stands c.args.link.now) (g.L.Link.stands c.loop-tried.link) 4 (g.L.Link.story c.args.link.now) (g.L.Link.story c.loop-tried.link) c.loop-tried.invariant.0;
   came = tried_all (g.L.Link.stands c.args.link.now) (g.L.Link.stands c.loop-tried.link) c.loop-tried._tried (seen_by g.L.Link.story g.L.Link.connect_faults g.L.Link.cuts g.L.Link.quiets c.args.link.now) (seen_by g.L.Link.story g.L.Link.connect_faults g.L.Link.cuts g.L.Link.quiets c.loop-tried.link)
       c.loop-tried.invariant.1 (omega arith);
 }

@@ -1,6 +1,7 @@
 use Rattle.smb_link.specs.Came.{seen_by}
+use Rattle.fs_core.specs.Course.{tally_of}
 use Rattle.fs_top.proofs.Steps.{rests_then}
-use Rattle.fs_top.proofs.Courses.{both_then}
+use Rattle.fs_top.proofs.Courses.{both_then, ready_few}
 use Rattle.fs_top.proofs.mount.leave_by.Goals as goal
 
 pub returns-in-Ok : goal.returns-in-Ok
@@ -10,6 +11,7 @@ returns-in-Ok g c =
       leads = λ one two.
           rests_then c.told-in-Ok.result c.args.client.now.wire.next c.told.new.client.wire.next c.told-in-Ok.new.client.wire.next
           (g.L.Link.story c.args.link.now) (g.L.Link.story c.told.new.link) (g.L.Link.story c.told-in-Ok.new.link) (c.in-Ok.ensures.leads one) (c.told-in-Ok.ensures.leads two);
-      came = both_then c.args.first.now c.args.second.now c.args.client.now.wire.next c.told.new.client.wire.next c.args.client.now.wire.received c.told.new.client.wire.received c.told-in-Ok.new.client.wire.received c.told-in-Ok.result
-          (seen c.args.link.now) (seen c.told.new.link) (seen c.told-in-Ok.new.link) c.in-Ok.ensures.next c.in-Ok.ensures.came c.told-in-Ok.ensures.came;
+      came = both_then c.args.first.now c.args.second.now c.args.client.now.wire.next c.told.new.client.wire.next (tally_of c.args.client.now.wire) (tally_of c.told.new.client.wire) (tally_of c.told-in-Ok.new.client.wire) c.told-in-Ok.result
+          (seen c.args.link.now) (seen c.told.new.link) (seen c.told-in-Ok.new.link) c.in-Ok.ensures.next c.in-Ok.ensures.came c.told-in-Ok.ensures.came
+          (ready_few c.told-in-Ok.result c.told-in-Ok.new.client.wire c.told-in-Ok.ensures.ready);
     }

@@ -1,20 +1,21 @@
-use Rattle.fs_plain.proofs.Leaving.{leaves_now}
-use Rattle.fs_core.specs.Exchange.{resting}
+use Rattle.fs_core.specs.Course.{tally_of}
 use Rattle.fs_top.proofs.Mounting.{negotiate_asks}
-use Rattle.fs_top.proofs.Steps.{rests_leaves}
+use Rattle.smb_head.specs.declared.request.Request.{Request}
+use Rattle.fs_core.specs.Judged.{HasBody}
+use Rattle.fs_top.proofs.Steps.{rests_leaves, rests_not}
+use Rattle.fs_top.proofs.MountBodies.{negotiate_sound, refused_end}
 use Rattle.smb_link.specs.Came.{seen_by}
-use Rattle.std.proofs.Common.{inl, sym, subst, ℕ, List, [], Ok, Err}
+use Rattle.std.proofs.Common.{subst, ℕ, List, Ok, Err, ap}
 use Rattle.smb_head.specs.Header.{head_of}
 use Rattle.smb_mount.specs.Requests.{negotiate}
 use Rattle.smb_mount.specs.Verdicts.{NegotiateEnds}
-use Rattle.fs_core.specs.Course.{Does}
-use Rattle.fs_top.specs.declared.run_end.End.{End}
-use Rattle.fs_top.specs.Course.{Broken, IsRefusal}
-use Rattle.fs_top.proofs.Courses.{step_taken, steps_refused}
+use Rattle.smb_mount.specs.declared.fault.MountFault.{MountFault}
+use Rattle.fs_top.proofs.Courses.{step_taken}
+use Rattle.fs_top.proofs.MountFailures.{step_refused, step_broken, step_unmade}
 use Rattle.fs_top.proofs.mount.negotiate.Goals as goal
 
 pub returns-in-Err-clause-leads : goal.returns-in-Err-clause-leads
-returns-in-Err-clause-leads g c options seed items begun = leaves_now options seed (resting items begun c.args.client.now.wire.next) (g.L.Link.story c.args.link.now)
+returns-in-Err-clause-leads g c = rests_not c.args.client.now.wire.next (g.L.Link.story c.args.link.now)
 
 pub returns-in-Err-asked-clause-leads : goal.returns-in-Err-asked-clause-leads
 returns-in-Err-asked-clause-leads g c = c.in-Err-asked.ensures.leads (negotiate_asks _ c.in-Ok.request c.in-Ok.ensures.value c.in-Ok.ensures.written)
@@ -24,18 +25,32 @@ returns-in-Ok-reply-clause-leads g c = c.in-Ok-asked.ensures.leads (negotiate_as
 
 pub returns-clause-leads : goal.returns-clause-leads
 returns-clause-leads g c =
-    rests_leaves c.args.client.now.wire.next c.asked.new.client.wire.next
-    (g.L.Link.story c.args.link.now) (g.L.Link.story c.asked.new.link) (c.in-Ok-asked.ensures.leads (negotiate_asks _ c.in-Ok.request c.in-Ok.ensures.value c.in-Ok.ensures.written))
+    let body : HasBody 0 c.in-Ok-asked.part = subst (λ (n : ℕ). HasBody n c.in-Ok-asked.part) (ap (λ (r : Request). r.command) c.in-Ok.ensures.value) c.in-Ok-asked.ensures.body in
+    let ends : NegotiateEnds c.args.state (head_of c.in-Ok-asked.part) c.in-Ok-asked.part (Err c.in-Err-reply.fault) =
+    subst (λ (p : List ℕ). NegotiateEnds c.args.state (head_of p) p (Err c.in-Err-reply.fault)) c.as_slice.ensures c.in-Err-reply.ensures in
+    rests_leaves c.end_of.result c.args.client.now.wire.next c.asked.new.client.wire.next (g.L.Link.story c.args.link.now) (g.L.Link.story c.asked.new.link)
+    (refused_end c.in-Err-reply.fault c.asked.new.client.wire.received c.end_of.result c.end_of.ensures (λ b. negotiate_sound c.args.state c.in-Ok-asked.part c.in-Err-reply.fault b body ends))
+    (c.in-Ok-asked.ensures.leads (negotiate_asks _ c.in-Ok.request c.in-Ok.ensures.value c.in-Ok.ensures.written))
 
 pub returns-in-Ok-reply-clause-came : goal.returns-in-Ok-reply-clause-came
 returns-in-Ok-reply-clause-came g c =
     let seen = seen_by g.L.Link.story g.L.Link.connect_faults g.L.Link.cuts g.L.Link.quiets in
     step_taken c.in-Ok.request (negotiate c.args.state.guid) (λ (part : List ℕ). NegotiateEnds c.args.state (head_of part) part (Ok c.in-Ok-reply.next)) c.args.client.now.wire.next c.as_slice.result.now c.in-Ok-asked.part
-    c.args.client.now.wire.received c.asked.new.client.wire.received (seen c.args.link.now) (seen c.asked.new.link) c.in-Ok.ensures.value c.as_slice.ensures c.in-Ok-asked.ensures.came c.in-Ok-reply.ensures
+    (tally_of c.args.client.now.wire) (tally_of c.asked.new.client.wire) (seen c.args.link.now) (seen c.asked.new.link) c.in-Ok.ensures.value c.as_slice.ensures c.in-Ok-asked.ensures.came c.in-Ok-reply.ensures
+
+pub returns-in-Err-clause-came : goal.returns-in-Err-clause-came
+returns-in-Err-clause-came g c =
+    let seen = seen_by g.L.Link.story g.L.Link.connect_faults g.L.Link.cuts g.L.Link.quiets in
+    step_unmade (negotiate c.args.state.guid) (λ (why : MountFault) (part : List ℕ). NegotiateEnds c.args.state (head_of part) part (Err why)) c.args.client.now.wire.next (tally_of c.args.client.now.wire) (tally_of c.args.client.now.wire) (seen c.args.link.now)
+
+pub returns-in-Err-asked-clause-came : goal.returns-in-Err-asked-clause-came
+returns-in-Err-asked-clause-came g c =
+    let seen = seen_by g.L.Link.story g.L.Link.connect_faults g.L.Link.cuts g.L.Link.quiets in
+    step_broken c.in-Ok.request (negotiate c.args.state.guid) (λ (why : MountFault) (part : List ℕ). NegotiateEnds c.args.state (head_of part) part (Err why)) c.in-Err-asked.end c.args.client.now.wire.next (tally_of c.args.client.now.wire) (tally_of c.asked.new.client.wire) (seen c.args.link.now) (seen c.asked.new.link)
+    c.in-Ok.ensures.value c.in-Err-asked.ensures.came
 
 pub returns-clause-came : goal.returns-clause-came
 returns-clause-came g c =
     let seen = seen_by g.L.Link.story g.L.Link.connect_faults g.L.Link.cuts g.L.Link.quiets in
-    let refuses : IsRefusal c.in-Err-reply.fault c.in-Ok-asked.part = inl (c.args.state, subst (λ (p : List ℕ). NegotiateEnds c.args.state (head_of p) p (Err c.in-Err-reply.fault)) c.as_slice.ensures c.in-Err-reply.ensures) in
-    subst (λ (e : End). Does (Broken c.args.client.now.wire.received c.asked.new.client.wire.received [] e) (seen c.args.link.now) (seen c.asked.new.link)) (sym c.end_of.ensures)
-    (steps_refused c.in-Ok.request c.args.client.now.wire.next c.in-Err-reply.fault c.args.client.now.wire.received c.asked.new.client.wire.received c.in-Ok-asked.part (seen c.args.link.now) (seen c.asked.new.link) c.in-Ok-asked.ensures.came refuses)
+    step_refused c.in-Ok.request (negotiate c.args.state.guid) (λ (why : MountFault) (part : List ℕ). NegotiateEnds c.args.state (head_of part) part (Err why)) c.in-Err-reply.fault c.end_of.result c.args.client.now.wire.next c.as_slice.result.now c.in-Ok-asked.part
+    (tally_of c.args.client.now.wire) (tally_of c.asked.new.client.wire) (seen c.args.link.now) (seen c.asked.new.link) c.in-Ok.ensures.value c.as_slice.ensures c.end_of.ensures c.in-Ok-asked.ensures.came c.in-Err-reply.ensures

@@ -1,8 +1,7 @@
 use Rattle.smb_link.specs.Came.{seen_by}
-use Rattle.std.proofs.Common.{rules, ◌∙◌, subst, List, ℕ}
 use Rattle.smb_link.proofs.CameLaws.{came_none}
-use Rattle.fs_top.specs.Printing.{held_by, TookAll, TookFront}
-use Rattle.fs_top.proofs.Saying.{prints_not, prints_all, prints_front}
+use Rattle.fs_top.specs.Printing.{held_by}
+use Rattle.fs_top.proofs.Saying.{prints_not}
 use Rattle.fs_top.proofs.run.answered.Goals as goal
 
 pub returns-in-Err-clause-came : goal.returns-in-Err-clause-came

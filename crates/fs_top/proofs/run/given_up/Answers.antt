@@ -1,4 +1,4 @@
-use Rattle.std.proofs.Common.{◌≡◌, sym, subst, ap, inl, inr, refl, [], Ok, Err, Some, None, Option, ℕ}
+use Rattle.std.proofs.Common.{sym, subst, inl, inr, refl, [], Ok, Err, Option, ℕ}
 use Rattle.smb_link.specs.Came.{seen_by}
 use Rattle.smb_link.proofs.CameLaws.{came_none}
 use Rattle.fs_plain.proofs.Leaving.{gains_none}
