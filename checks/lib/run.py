@@ -168,6 +168,8 @@ expect("dialect 0x0311", b"0 stat /\n", (4, "fault 4 mount dialect 0x0311\n"), M
 expect("a refused NEGOTIATE", b"0 stat /\n", (4, "fault 4 mount dialect 0x0000\n"), MOUNT[:1], tricks={NEGOTIATE: (0xC00000BB, error())})
 expect("signing", b"0 stat /\n", (4, "fault 4 mount signing\n"), MOUNT[:1], tricks={NEGOTIATE: negotiated(3, 0x0210)})
 expect("a refused session", b"0 stat /\n", (4, "fault 4 mount session C0000022\n"), MOUNT[:2], tricks={SETUP: (DENIED, error())})
+expect("a challenge behind a challenge", b"0 stat /\n", (4, "fault 4 mount session C0000016\n"), MOUNT[:3],
+       tricks={SETUP: (MORE, struct.pack("<HHHH", 9, 0, 72, len(challenge())) + challenge())})
 expect("no guest", b"0 stat /\n", (4, "fault 4 mount guest\n"), MOUNT[:2], tricks={SETUP: (0, struct.pack("<HHHH", 9, 0, 72, 0))})
 expect("a refused share", b"0 stat /\n", (4, "fault 4 mount tree C00000CC\n"), MOUNT, tricks={TREE: (0xC00000CC, error())})
 expect("a printer", b"0 stat /\n", (4, "fault 4 mount disk 3\n"), MOUNT,
