@@ -12,7 +12,7 @@ use Rattle.smb_link.specs.declared.event.Event.TheVariants as event
 use Rattle.smb_link.specs.declared.mark.Mark.TheVariants as mark
 use Rattle.smb_link.specs.Story.{Gains}
 use Rattle.smb_link.specs.Program.{Program, Ask, Look, Say}
-use Rattle.fs_plain.specs.Requests.{Asked, asked}
+use Rattle.fs_plain.specs.Requests.{WireRequest, wire_request}
 use Rattle.fs_plain.specs.Replies.{command_of}
 use Rattle.fs_plain.specs.World.{mid_of}
 use Rattle.fs_plain.specs.View.{Item, Flight, View, same_flying, is_number, fly, land, with_flight, with_hand}
@@ -21,8 +21,8 @@ use Rattle.fs_plain.specs.Related.{Related}
 use Rattle.fs_plain.specs.Moves.{Leads, Leaves}
 use Rattle.fs_plain.proofs.Leading.{leads_then, leads_seen, leads_for, leads_send}
 use Rattle.fs_plain.proofs.Leaving.{leaves_now, leads_then_leaves, leaves_never, leaves_foul, leaves_shares, leaves_cut, gains_two}
-use Rattle.fs_core.specs.declared.part.Awaited.{Awaited}
-use Rattle.fs_core.specs.declared.part.Kind as kinds
+use Rattle.fs_core.specs.declared.reply_kind.Awaited.{Awaited}
+use Rattle.fs_core.specs.declared.reply_kind.ReplyFault as kinds
 use Rattle.fs_core.specs.declared.wire.Stop.{Stop}
 use Rattle.fs_core.specs.declared.wire.Stop.TheVariants as stop
 use Rattle.fs_core.specs.Written.{IsAlone}
@@ -84,7 +84,7 @@ none_flown : (next : ℕ) (message : List ℕ) (items : List Item) → map (fly 
 none_flown next message [] = refl
 none_flown next message (i ∷ is) = ap (λ (l : List Item). i ∷ l) (none_flown next message is)
 
-may_ask : (items : List Item) (begun : List ℕ) (next : ℕ) (message : List ℕ) → asked message ≡ Some Asked.Aside → (mid_of message).0 ≡ next → IsAlone message
+may_ask : (items : List Item) (begun : List ℕ) (next : ℕ) (message : List ℕ) → wire_request message ≡ Some WireRequest.Aside → (mid_of message).0 ≡ next → IsAlone message
     → MaySend (resting items begun next) (aside_flight next message) (frame message)
 may_ask items begun next message asks mid alone = record {
   connected = refl;
@@ -92,7 +92,7 @@ may_ask items begun next message asks mid alone = record {
   announced = refl;
   idle = all_idle next message items;
   asks = asks;
-  known = ap (λ (o : Option Asked). is_none o) asks;
+  known = ap (λ (o : Option WireRequest). is_none o) asks;
   mid = ap (λ (n : ℕ). record { 0 = n }) mid;
   alone = frame_alone message (frame message) alone.small refl alone;
 }
@@ -105,7 +105,7 @@ flies options seed items begun next message old new leads =
 
 -- what a message needs to be asked with
 pub record Asks (request : Request) (next : ℕ) (message : List ℕ) : Type 0 where
-  pub aside : IsAsideBody request.command request.body → asked message ≡ Some Asked.Aside
+  pub aside : IsAsideBody request.command request.body → wire_request message ≡ Some WireRequest.Aside
   pub mid : (mid_of message).0 ≡ next
   pub command : command_of message ≡ request.command
   pub alone : IsAlone message
@@ -175,8 +175,8 @@ announces options seed number mid message begun i old new may gains =
     (announced_item number mid message begun i may)
     (leads_for options seed (resting (i ∷ []) begun mid.0) (record { number = number; first = mid; count = 1 }) old new gains may.known)
 
-wish_known : (rest : Program) (fids : List _) (message : List ℕ) → IsWish rest fids message → is_none (asked message) ≡ false
-wish_known (Ask wish rest) fids message is = ap (λ (o : Option Asked). is_none o) is
+wish_known : (rest : Program) (fids : List _) (message : List ℕ) → IsWish rest fids message → is_none (wire_request message) ≡ false
+wish_known (Ask wish rest) fids message is = ap (λ (o : Option WireRequest). is_none o) is
 wish_known (Look rest) fids message is = absurd is
 wish_known (Say answer) fids message is = absurd is
 
@@ -235,7 +235,7 @@ answer_read request part reply old new replies says options seed begun f i is =
     (call_lands request (i ∷ []) begun f i.number part got.0 reply is.owner is.awaits.command replies.0 says s r old)))
 
 -- it says nothing, which is foul
-pub answer_unread : (request : Awaited) (part : List ℕ) (fault : kinds.Kind) (why : Stop) (old new : Option (List Event)) → ReplyLeads request (Ok part) old new → SaysNothing request.command part fault
+pub answer_unread : (request : Awaited) (part : List ℕ) (fault : kinds.ReplyFault) (why : Stop) (old new : Option (List Event)) → ReplyLeads request (Ok part) old new → SaysNothing request.command part fault
     → AnswerLeads request (Err why) old new
 answer_unread request part fault why old new replies nothing options seed begun f i is =
     let got = replies.1 options seed (i ∷ []) begun f is.awaits in

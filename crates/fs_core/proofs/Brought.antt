@@ -9,17 +9,17 @@ use Rattle.smb_chain.proofs.PartLaws.{length-then, parts_of-step}
 use Rattle.share_spec.specs.State.{has}
 use Rattle.fs_plain.specs.Replies.{is_error, is_interim}
 use Rattle.fs_plain.specs.View.{messages_among}
-use Rattle.fs_core.specs.declared.part.Awaited.{Awaited}
-use Rattle.fs_core.specs.declared.part.Kind.{Kind}
-use Rattle.fs_core.specs.declared.part.Kind.TheVariants as kind
-use Rattle.fs_core.specs.declared.part.Look.{Look}
-use Rattle.fs_core.specs.declared.part.Look.TheVariants as look
+use Rattle.fs_core.specs.declared.reply_kind.Awaited.{Awaited}
+use Rattle.fs_core.specs.declared.reply_kind.ReplyFault.{ReplyFault}
+use Rattle.fs_core.specs.declared.reply_kind.ReplyFault.TheVariants as kind
+use Rattle.fs_core.specs.declared.reply_kind.Look.{Look}
+use Rattle.fs_core.specs.declared.reply_kind.Look.TheVariants as look
 use Rattle.fs_core.specs.Judged.{has_reply_body, is_notice, look_of, look_with, look_at_final, answered, judged_as, judged_by, judged_within, judged, PassedWith, IsPassed, FinalWith, IsFinal, HasBodyWith, HasBody, Brings}
 
-passed_not_fault : (k : Kind) → look.Fault k ≡ look.Passed → ⊥
+passed_not_fault : (k : ReplyFault) → look.Fault k ≡ look.Passed → ⊥
 passed_not_fault k is = search rules
 
-final_not_fault : (k : Kind) → look.Fault k ≡ look.Final → ⊥
+final_not_fault : (k : ReplyFault) → look.Fault k ≡ look.Final → ⊥
 final_not_fault k is = search rules
 
 passed_not_final : look.Passed ≡ look.Final → ⊥
@@ -110,10 +110,10 @@ look_bodies request p (Ok head) is =
     (bodies head p (head.mid.0 == 2 ^ 64 - 1) (head.mid.0 == request.mid.0) (head.command == request.command && has head.flags.0 1) (is_interim head)
     (has_reply_body head.status.0 head.command p) is)
 
-ok_not_err : (k : Kind) (f : Option (List ℕ)) (r : Result (Option (List ℕ)) Kind) → r ≡ Err k → r ≡ Ok f → ⊥
+ok_not_err : (k : ReplyFault) (f : Option (List ℕ)) (r : Result (Option (List ℕ)) ReplyFault) → r ≡ Err k → r ≡ Ok f → ⊥
 ok_not_err k f r is is' = search rules
 
-same_ok : (a b : Option (List ℕ)) (r : Result (Option (List ℕ)) Kind) → r ≡ Ok a → r ≡ Ok b → a ≡ b
+same_ok : (a b : Option (List ℕ)) (r : Result (Option (List ℕ)) ReplyFault) → r ≡ Ok a → r ≡ Ok b → a ≡ b
 same_ok a b r is is' = search rules
 
 -- one message more
@@ -128,7 +128,7 @@ more request p messages (Some part) pass brings = record {
   body = brings.body;
 }
 
-here : (request : Awaited) (p : List ℕ) (messages : List (List ℕ)) (found : Option (List ℕ)) (others : Result (Option (List ℕ)) Kind) → IsFinal request p → HasBody request.command p
+here : (request : Awaited) (p : List ℕ) (messages : List (List ℕ)) (found : Option (List ℕ)) (others : Result (Option (List ℕ)) ReplyFault) → IsFinal request p → HasBody request.command p
     → answered p others ≡ Ok found → Brings request (p ∷ messages) found
 here request p messages found (Err k) final body is = absurd (ok_not_err k found (Err k) refl is)
 here request p messages found (Ok f) final body is = subst (λ (g : Option (List ℕ)). Brings request (p ∷ messages) g) (same_ok (Some p) found (Ok (Some p)) refl is) (record {
@@ -140,14 +140,14 @@ here request p messages found (Ok f) final body is = subst (λ (g : Option (List
   body = body;
 })
 
-by_look : (request : Awaited) (p : List ℕ) (messages : List (List ℕ)) (found : Option (List ℕ)) (l : Look) (others : Option Awaited → Result (Option (List ℕ)) Kind)
+by_look : (request : Awaited) (p : List ℕ) (messages : List (List ℕ)) (found : Option (List ℕ)) (l : Look) (others : Option Awaited → Result (Option (List ℕ)) ReplyFault)
     → look_of (Some request) p ≡ l → judged_as l p (Some request) others ≡ Ok found
     → (others (Some request) ≡ Ok found → Brings request messages found) → Brings request (p ∷ messages) found
 by_look request p messages found look.Passed others looks is later = more request p messages found (look_passes request p (head_of p) looks) (later is)
 by_look request p messages found look.Final others looks is later = here request p messages found (others None) (look_finals request p (head_of p) looks) (look_bodies request p (head_of p) looks) is
 by_look request p messages found (look.Fault k) others looks is later = absurd (ok_not_err k found (Err k) refl is)
 
-by_part : (request : Awaited) (head : Result Head HeadFault) (at : Step) (found : Option (List ℕ)) (others : Option Awaited → List ℕ → Result (Option (List ℕ)) Kind)
+by_part : (request : Awaited) (head : Result Head HeadFault) (at : Step) (found : Option (List ℕ)) (others : Option Awaited → List ℕ → Result (Option (List ℕ)) ReplyFault)
     → judged_by head at (Some request) others ≡ Ok found
     → ((part rest : List ℕ) → at ≡ Then part rest → others (Some request) rest ≡ Ok found → Brings request (messages_among (parts_of rest)) found)
     → Brings request (messages_among (with_rest at parts_of)) found

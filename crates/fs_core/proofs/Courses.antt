@@ -21,9 +21,9 @@ use Rattle.smb_link.specs.Came.{Seen, Came}
 use Rattle.smb_link.proofs.CameLaws.{came_none, came_then}
 use Rattle.fs_core.specs.declared.listen.Heard.{Heard}
 use Rattle.fs_core.specs.declared.listen.Heard.TheVariants as heard
-use Rattle.fs_core.specs.declared.part.Awaited.{Awaited}
-use Rattle.fs_core.specs.declared.part.Kind as kinds
-use Rattle.fs_core.specs.declared.part.Kind.TheVariants as kind
+use Rattle.fs_core.specs.declared.reply_kind.Awaited.{Awaited}
+use Rattle.fs_core.specs.declared.reply_kind.ReplyFault as kinds
+use Rattle.fs_core.specs.declared.reply_kind.ReplyFault.TheVariants as kind
 use Rattle.fs_core.specs.declared.wire.Stop.{Stop}
 use Rattle.fs_core.specs.declared.wire.Stop.TheVariants as stop
 use Rattle.fs_core.specs.declared.wire.TheConstants.{MAX_FRAMES}
@@ -360,7 +360,7 @@ passed_more patience request old mid new before now after message p h none one =
     }
 
 -- or it decides
-decided : (request : Awaited) (old new : Seen) (before now : Tally) (message : List ℕ) (verdict : Result (Option (List ℕ)) kinds.Kind)
+decided : (request : Awaited) (old new : Seen) (before now : Tally) (message : List ℕ) (verdict : Result (Option (List ℕ)) kinds.ReplyFault)
     → (m : More request old new before now message) → judged (Some request) message ≡ verdict → Decides request (bytes_got m.events) verdict
 decided request old new before now message verdict m is = record {
   passed = m.passed;
@@ -378,7 +378,7 @@ awaited_found patience request old mid new before now after message part p h fou
     let m = more patience request old mid new before now message p h in
     (m.events, m.came, (m.wait, decided request old new before now message (Ok (Some part)) m found, one ∙ m.counted))
 
-pub awaited_faulty : (patience : ℕ) (request : Awaited) (old mid new : Seen) (before now after : Tally) (message : List ℕ) (fault : kinds.Kind) → Passed request old mid before now
+pub awaited_faulty : (patience : ℕ) (request : Awaited) (old mid new : Seen) (before now after : Tally) (message : List ℕ) (fault : kinds.ReplyFault) → Passed request old mid before now
     → Does (HeardSo patience [] (heard.Frame message)) mid new → judged (Some request) message ≡ Err fault → after.frames ≡ now.frames + 1
     → Does (AwaitedSo patience request before after (Err (stop.Fault fault))) old new
 awaited_faulty patience request old mid new before now after message fault p h found one =

@@ -2,9 +2,10 @@
 use Rattle.std.proofs.Common.{rules, ◌≡◌, ◌∙◌, refl, sym, subst, ℕ, ◌==◌, Bool, true, false, ◌&&◌, ◌||◌, if◌then◌else◌, List, Option, Some, None, Result, Ok, Err}
 use Rattle.std.specs.Prelude.{IfSome, IfOk}
 use Rattle.smb_link.specs.Came.{Seen}
-use Rattle.fs_core.specs.declared.part.Awaited.{Awaited}
+use Rattle.fs_core.specs.declared.reply_kind.Awaited.{Awaited}
 use Rattle.fs_core.specs.declared.wire.Stop.{Stop}
 use Rattle.fs_core.specs.Course.{Does, Tally, AnsweredSo, IsOpenedBody, IsCreated}
+use Rattle.smb_head.specs.declared.command.TheConstants.{CREATE}
 use Rattle.smb_head.specs.declared.head.Head.{Head}
 use Rattle.smb_head.specs.declared.head.HeadFault.{HeadFault}
 use Rattle.smb_head.specs.Header.{head_of}
@@ -58,10 +59,10 @@ by_head : (head : Result Head HeadFault) (message : List ℕ) (reply : Rep) → 
 by_head (Err fault) message reply says = absurd says
 by_head (Ok head) message reply says = by_status head.status.0 _ message reply (zero_is head.status.0 _) says
 
-pub says_created : (command : ℕ) (message : List ℕ) (reply : Rep) → Says command message reply → command ≡ 5 → IsCreated reply
+pub says_created : (command : ℕ) (message : List ℕ) (reply : Rep) → Says command message reply → command ≡ CREATE → IsCreated reply
 says_created command message reply says is = by_head (head_of message) message reply (subst (λ (n : ℕ). Says n message reply) is says)
 
 pub answered_created : (patience : ℕ) (request : Awaited) (before after : Tally) (result : Result Rep Stop) (old new : Seen) → Does (AnsweredSo patience request before after result) old new
-    → IfOk result (λ (reply : Rep). request.command ≡ 5 → IsCreated reply)
+    → IfOk result (λ (reply : Rep). request.command ≡ CREATE → IsCreated reply)
 answered_created patience request before after (Ok reply) old new so = says_created request.command so.2.0 reply so.2.2
 answered_created patience request before after (Err why) old new so = tt

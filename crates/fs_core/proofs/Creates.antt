@@ -4,6 +4,7 @@ use Rattle.std.specs.Prelude.{◌&&◌, ◌==◌, nat_le, if◌then◌else◌}
 use Rattle.std.proofs.lemmas.Bool.Decides.{nat_tests}
 use Rattle.std.proofs.lemmas.List.{append-nil}
 use Rattle.smb_le.specs.Numbers.{number_at}
+use Rattle.smb_head.specs.declared.command.TheConstants.{CREATE}
 use Rattle.smb_head.specs.Header.{FitsHeader, header}
 use Rattle.smb_head.proofs.HeadLaws.{length-header}
 use Rattle.smb_field.specs.declared.field.BodyFault.{BodyFault}
@@ -12,9 +13,9 @@ use Rattle.smb_body_b.specs.declared.contexts.ContextSet.{ContextSet}
 use Rattle.smb_body_b.specs.Contexts.{contexts_of, set_of, read_of}
 use Rattle.share_spec.specs.declared.request.Req.TheVariants as req
 use Rattle.fs_plain.specs.Wire.{has_body, lies, bytes_at, units_in}
-use Rattle.fs_plain.specs.Requests.{Asked, asked, is_create, create_with, create_asked}
+use Rattle.fs_plain.specs.Requests.{WireRequest, wire_request, is_create, create_with, create_asked}
 use Rattle.fs_plain.specs.Taken.{wished_attributes}
-use Rattle.fs_core.specs.declared.write.Place.{Place}
+use Rattle.fs_core.specs.declared.write.RequestPlace.{RequestPlace}
 use Rattle.fs_core.specs.Written.{request_head, message_of, create_fields}
 use Rattle.fs_core.proofs.Parts.{lent_at, lent_lies}
 use Rattle.fs_core.proofs.Sent.{asked_by}
@@ -35,7 +36,7 @@ body_there m long size = grind (arith, nat_tests)
 
 create_is : (path name m : List ℕ) (access disposition options : ℕ)
     → IsBodyOfTwo 57 (create_fields access disposition options name) name [] m → disposition ≤ 5 → length name % 2 ≡ 0 → units_in name ≡ path
-    → create_asked false m ≡ Some (Asked.Share false (req.Create path access 7 disposition options (wished_attributes options) None false))
+    → create_asked false m ≡ Some (WireRequest.Share false (req.Create path access 7 disposition options (wished_attributes options) None false))
 create_is path name m access disposition options is high even units =
     let fields = is.2.1.1.1.1.1 in
     let parts = fields.1.1.1.1.1 in
@@ -56,18 +57,18 @@ create_is path name m access disposition options is high even units =
     ∙ rw (named, units, fields.0, fields.1.0, fields.1.1.0, fields.1.1.1.0, fields.1.1.1.1.0) refl
 
 -- a CREATE asks for what its fields say
-pub create_asks : (place : Place) (path name : List ℕ) (access disposition options : ℕ) → FitsHeader (request_head place 5)
+pub create_asks : (place : RequestPlace) (path name : List ℕ) (access disposition options : ℕ) → FitsHeader (request_head place CREATE)
     → IsTwoReadAgain 57 (create_fields access disposition options name) name [] → disposition ≤ 5 → length name % 2 ≡ 0 → units_in name ≡ path
-    → asked (message_of place 5 (spelling_of_two 57 (create_fields access disposition options name) name []))
-    ≡ Some (Asked.Share false (req.Create path access 7 disposition options (wished_attributes options) None false))
+    → wire_request (message_of place CREATE (spelling_of_two 57 (create_fields access disposition options name) name []))
+    ≡ Some (WireRequest.Share false (req.Create path access 7 disposition options (wished_attributes options) None false))
 unfolding IsTwoReadAgain
 create_asks place path name access disposition options fits again high even units =
     let fields = create_fields access disposition options name in
     let body = spelling_of_two 57 fields name [] in
-    let head = header (request_head place 5) in
+    let head = header (request_head place CREATE) in
     let stands : IsBodyOfTwo 57 fields name [] (head ++ body) =
-    subst (λ (b : List ℕ). IsBodyOfTwo 57 fields name [] (head ++ b)) (append-nil body) (again head [] (length-header (request_head place 5))) in
-    asked_by place 5 body fits ∙ create_is path name (head ++ body) access disposition options stands high even units
+    subst (λ (b : List ℕ). IsBodyOfTwo 57 fields name [] (head ++ b)) (append-nil body) (again head [] (length-header (request_head place CREATE))) in
+    asked_by place CREATE body fits ∙ create_is path name (head ++ body) access disposition options stands high even units
 
 few_if : (t : Bool) (name : List ℕ) → length (if t then replicate (57 % 2) 0 else name) ≤ 1 + length name
 few_if true name = omega arith

@@ -20,11 +20,11 @@ use Rattle.fs_plain.specs.Replies.{command_of, answers, is_interim, is_error, re
 use Rattle.fs_plain.specs.Replay.{Replay}
 use Rattle.fs_plain.specs.View.{Item, Flight, messages_among, IsFor, IsOf, Sound, Belongs, with_hand}
 use Rattle.fs_plain.specs.Related.{Related, Settles}
-use Rattle.fs_core.specs.declared.part.Awaited.{Awaited}
-use Rattle.fs_core.specs.declared.part.Kind.{Kind}
-use Rattle.fs_core.specs.declared.part.Kind.TheVariants as kind
-use Rattle.fs_core.specs.declared.part.Look.{Look}
-use Rattle.fs_core.specs.declared.part.Look.TheVariants as look
+use Rattle.fs_core.specs.declared.reply_kind.Awaited.{Awaited}
+use Rattle.fs_core.specs.declared.reply_kind.ReplyFault.{ReplyFault}
+use Rattle.fs_core.specs.declared.reply_kind.ReplyFault.TheVariants as kind
+use Rattle.fs_core.specs.declared.reply_kind.Look.{Look}
+use Rattle.fs_core.specs.declared.reply_kind.Look.TheVariants as look
 use Rattle.fs_core.specs.Hearing.{all_ok}
 use Rattle.fs_core.specs.Exchange.{awaiting, Awaits}
 use Rattle.fs_core.specs.Judged.{has_reply_body, is_notice, look_at_final, look_at_reply, looked_by, looked, look_with, look_of, answered, judged_as, judged_by, judged_within, judged}
@@ -82,16 +82,16 @@ by_header : (request : Awaited) (f : Flight) (part : List ℕ) (head : Head) (l 
 by_header request f part head l is h looks = ap (λ (r : Result Head HeadFault). look_with r (Some request) part) is ∙ looked_reply request f head part h ∙ looks
 
 -- no fault was found
-abbrev IsFine : Result (Option (List ℕ)) Kind → Type 0
+abbrev IsFine : Result (Option (List ℕ)) ReplyFault → Type 0
 IsFine (Ok found) = Unit {0}
 IsFine (Err fault) = ⊥
 
-fine_answered : (part : List ℕ) (others : Result (Option (List ℕ)) Kind) → IsFine others → IsFine (answered part others)
+fine_answered : (part : List ℕ) (others : Result (Option (List ℕ)) ReplyFault) → IsFine others → IsFine (answered part others)
 fine_answered part (Ok found) fine = record {}
 fine_answered part (Err fault) fine = absurd fine
 
 -- one message that pays what is owed first: the others are judged with the request still awaited, or answered
-step : (request : Awaited) (items : List Item) (f : Flight) (owed' : List Owed) (part : List ℕ) (messages : List (List ℕ)) (others : Option Awaited → Result (Option (List ℕ)) Kind)
+step : (request : Awaited) (items : List Item) (f : Flight) (owed' : List Owed) (part : List ℕ) (messages : List (List ℕ)) (others : Option Awaited → Result (Option (List ℕ)) ReplyFault)
     → Awaits request f → Belongs items f → (paid : List Owed) → Settles paid (part ∷ messages) → Sound (f ∷ []) (paid ++ owed')
     → ((left : List Owed) → Settles left messages → Sound (f ∷ []) (left ++ owed') → IsFine (others (Some request)))
     → ((left : List Owed) → Settles left messages → Sound [] (left ++ owed') → IsFine (others None))
@@ -222,7 +222,7 @@ unfolding judged
 fine request items f owed' message awaits belongs paid ok settled sound = within (suc (length message)) request items f owed' message awaits belongs (omega arith) paid ok settled sound
 
 -- messages of a frame that settle what is owed to the one request in flight are judged to be no fault
-pub honest_judged : (request : Awaited) (items : List Item) (begun : List ℕ) (f : Flight) (message : List ℕ) (fault : Kind) → Awaits request f → all_ok (parts_of message) ≡ true
+pub honest_judged : (request : Awaited) (items : List Item) (begun : List ℕ) (f : Flight) (message : List ℕ) (fault : ReplyFault) → Awaits request f → all_ok (parts_of message) ≡ true
     → judged (Some request) message ≡ Err fault
     → (s : Share) (r : Replay) → Related s r (with_hand (messages_among (parts_of message)) (awaiting items begun f)) → ⊥
 honest_judged request items begun f message fault awaits ok is s r old =

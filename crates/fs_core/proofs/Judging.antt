@@ -5,20 +5,20 @@ use Rattle.smb_head.specs.declared.head.HeadFault.{HeadFault}
 use Rattle.smb_head.specs.Header.{head_of}
 use Rattle.smb_chain.specs.Parts.{Step, Only, Then, Bad, step_of, step_from}
 use Rattle.smb_chain.proofs.PartLaws.{length-then}
-use Rattle.fs_core.specs.declared.part.Awaited.{Awaited}
-use Rattle.fs_core.specs.declared.part.Kind.{Kind}
-use Rattle.fs_core.specs.declared.part.Kind.TheVariants as kind
-use Rattle.fs_core.specs.declared.part.Look.{Look}
-use Rattle.fs_core.specs.declared.part.Look.TheVariants as look
+use Rattle.fs_core.specs.declared.reply_kind.Awaited.{Awaited}
+use Rattle.fs_core.specs.declared.reply_kind.ReplyFault.{ReplyFault}
+use Rattle.fs_core.specs.declared.reply_kind.ReplyFault.TheVariants as kind
+use Rattle.fs_core.specs.declared.reply_kind.Look.{Look}
+use Rattle.fs_core.specs.declared.reply_kind.Look.TheVariants as look
 use Rattle.fs_core.specs.Judged.{look_of, answered, judged_as, judged_by, judged_within, judged, next_of, first_found, with_found, others_left}
 
-as_same : (l : Look) (part : List ℕ) (awaited : Option Awaited) (f g : Option Awaited → Result (Option (List ℕ)) Kind) → ((now : Option Awaited) → f now ≡ g now)
+as_same : (l : Look) (part : List ℕ) (awaited : Option Awaited) (f g : Option Awaited → Result (Option (List ℕ)) ReplyFault) → ((now : Option Awaited) → f now ≡ g now)
     → judged_as l part awaited f ≡ judged_as l part awaited g
 as_same look.Passed part awaited f g same = same awaited
 as_same look.Final part awaited f g same = ap (answered part) (same None)
 as_same (look.Fault fault) part awaited f g same = refl
 
-by_step : (head : Result Head HeadFault) (step : Step) (awaited : Option Awaited) (f g : Option Awaited → List ℕ → Result (Option (List ℕ)) Kind)
+by_step : (head : Result Head HeadFault) (step : Step) (awaited : Option Awaited) (f g : Option Awaited → List ℕ → Result (Option (List ℕ)) ReplyFault)
     → ((part rest : List ℕ) (now : Option Awaited) → step ≡ Then part rest → f now rest ≡ g now rest)
     → judged_by head step awaited f ≡ judged_by head step awaited g
 by_step (Err fault) step awaited f g same = refl
@@ -46,13 +46,13 @@ judged-step awaited bytes =
     enough (length bytes) (suc (length rest)) now rest (omega arith) (omega arith))
 
 -- one of two
-same_ok : (x y : Step) (r : Result Step Kind) → r ≡ Ok x → r ≡ Ok y → x ≡ y
+same_ok : (x y : Step) (r : Result Step ReplyFault) → r ≡ Ok x → r ≡ Ok y → x ≡ y
 same_ok x y r is is' = search rules
 
-not_both : (x : Step) (fault : Kind) (r : Result Step Kind) → r ≡ Ok x → r ≡ Err fault → ⊥
+not_both : (x : Step) (fault : ReplyFault) (r : Result Step ReplyFault) → r ≡ Ok x → r ≡ Err fault → ⊥
 not_both x fault r is is' = search rules
 
-same_err : (e f : Kind) (r : Result Step Kind) → r ≡ Err e → r ≡ Err f → e ≡ f
+same_err : (e f : ReplyFault) (r : Result Step ReplyFault) → r ≡ Err e → r ≡ Err f → e ≡ f
 same_err e f r is is' = search rules
 
 same_only : (a b : List ℕ) → Only a ≡ Only b → a ≡ b
@@ -67,24 +67,24 @@ same_then a b c d is = search rules
 same_rest : (a b c d : List ℕ) → Then a b ≡ Then c d → b ≡ d
 same_rest a b c d is = search rules
 
-with_fault : (f : Option (List ℕ)) (fault : Kind) → with_found f (Err fault) ≡ Err fault
+with_fault : (f : Option (List ℕ)) (fault : ReplyFault) → with_found f (Err fault) ≡ Err fault
 with_fault None fault = refl
 with_fault (Some p) fault = refl
 
 -- it has no header, or names a bad place
-by_next : (head : Result Head HeadFault) (at : Step) (f : Option (List ℕ)) (awaited : Option Awaited) (others : Option Awaited → List ℕ → Result (Option (List ℕ)) Kind) (fault : Kind)
+by_next : (head : Result Head HeadFault) (at : Step) (f : Option (List ℕ)) (awaited : Option Awaited) (others : Option Awaited → List ℕ → Result (Option (List ℕ)) ReplyFault) (fault : ReplyFault)
     → next_of head at ≡ Err fault → with_found f (judged_by head at awaited others) ≡ Err fault
-by_next (Err e) at f awaited others fault is = with_fault f kind.Head ∙ ap (λ (k : Kind). Err k) (same_err kind.Head fault (Err kind.Head) refl is)
-by_next (Ok head) Bad f awaited others fault is = with_fault f kind.Chain ∙ ap (λ (k : Kind). Err k) (same_err kind.Chain fault (Err kind.Chain) refl is)
+by_next (Err e) at f awaited others fault is = with_fault f kind.Head ∙ ap (λ (k : ReplyFault). Err k) (same_err kind.Head fault (Err kind.Head) refl is)
+by_next (Ok head) Bad f awaited others fault is = with_fault f kind.Chain ∙ ap (λ (k : ReplyFault). Err k) (same_err kind.Chain fault (Err kind.Chain) refl is)
 by_next (Ok head) (Only part) f awaited others fault is = absurd (not_both (Only part) fault (Ok (Only part)) refl is)
 by_next (Ok head) (Then part rest) f awaited others fault is = absurd (not_both (Then part rest) fault (Ok (Then part rest)) refl is)
 
 -- it is one message, with what stands behind it
-abbrev pub behind : (Option Awaited → List ℕ → Result (Option (List ℕ)) Kind) → Option (Bor (List ℕ)) → Option Awaited → Result (Option (List ℕ)) Kind
+abbrev pub behind : (Option Awaited → List ℕ → Result (Option (List ℕ)) ReplyFault) → Option (Bor (List ℕ)) → Option Awaited → Result (Option (List ℕ)) ReplyFault
 behind others None now = Ok None
 behind others (Some rest) now = others now rest.now
 
-by_part : (head : Result Head HeadFault) (at : Step) (awaited : Option Awaited) (others : Option Awaited → List ℕ → Result (Option (List ℕ)) Kind) (part : List ℕ) (rest : Option (Bor (List ℕ)))
+by_part : (head : Result Head HeadFault) (at : Step) (awaited : Option Awaited) (others : Option Awaited → List ℕ → Result (Option (List ℕ)) ReplyFault) (part : List ℕ) (rest : Option (Bor (List ℕ)))
     → next_of head at ≡ Ok (step_from part rest) → judged_by head at awaited others ≡ judged_as (look_of awaited part) part awaited (behind others rest)
 by_part (Err e) at awaited others part rest is = absurd (not_both (step_from part rest) kind.Head (Err kind.Head) is refl)
 by_part (Ok head) Bad awaited others part rest is = absurd (not_both (step_from part rest) kind.Chain (Err kind.Chain) is refl)
@@ -98,7 +98,7 @@ by_part (Ok head) (Then p r) awaited others part (Some rest) is =
     ∙ ap (λ (q : List ℕ). judged_as (look_of awaited part) part awaited (λ now. others now q)) (same_rest p r part rest.now same)
 
 -- the walk ends at a fault of the next message
-pub walk_next : (bytes : List ℕ) (now : Option Awaited) (f : Option (List ℕ)) (fault : Kind)
+pub walk_next : (bytes : List ℕ) (now : Option Awaited) (f : Option (List ℕ)) (fault : ReplyFault)
     → Err fault ≡ next_of (head_of bytes) (step_of bytes) → with_found f (judged now bytes) ≡ Err fault
 walk_next bytes now f fault is =
     ap (with_found f) (judged-step now bytes) ∙ by_next (head_of bytes) (step_of bytes) f now judged fault (sym is)
@@ -115,7 +115,7 @@ walk_part bytes now part rest l is looks =
     ∙ ap (λ (k : Look). judged_as k part now (behind judged rest)) (sym looks)
 
 -- or at a fault of this one
-pub walk_fault : (bytes : List ℕ) (now : Option Awaited) (f : Option (List ℕ)) (part : List ℕ) (rest : Option (Bor (List ℕ))) (fault : Kind)
+pub walk_fault : (bytes : List ℕ) (now : Option Awaited) (f : Option (List ℕ)) (part : List ℕ) (rest : Option (Bor (List ℕ))) (fault : ReplyFault)
     → Ok (step_from part rest) ≡ next_of (head_of bytes) (step_of bytes) → look.Fault fault ≡ look_of now part → with_found f (judged now bytes) ≡ Err fault
 walk_fault bytes now f part rest fault is looks = ap (with_found f) (walk_part bytes now part rest (look.Fault fault) is looks) ∙ with_fault f fault
 
@@ -125,7 +125,7 @@ pub walk_passed : (bytes : List ℕ) (now : Option Awaited) (f : Option (List �
     → with_found f (judged now bytes) ≡ with_found f (others_left now rest)
 walk_passed bytes now f part rest is looks = ap (with_found f) (walk_part bytes now part rest look.Passed is looks ∙ left_same rest now)
 
-first_answer : (f : Option (List ℕ)) (part : List ℕ) (others : Result (Option (List ℕ)) Kind) → with_found f (answered part others) ≡ with_found (first_found f part) others
+first_answer : (f : Option (List ℕ)) (part : List ℕ) (others : Result (Option (List ℕ)) ReplyFault) → with_found f (answered part others) ≡ with_found (first_found f part) others
 first_answer None part others = refl
 first_answer (Some p) part (Ok found) = refl
 first_answer (Some p) part (Err fault) = refl

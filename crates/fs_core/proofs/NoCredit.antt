@@ -7,17 +7,17 @@ use Rattle.smb_chain.specs.Parts.{Step, Only, Then, Bad, step_of}
 use Rattle.share_spec.specs.State.{has}
 use Rattle.smb_link.specs.declared.event.Event.{Event}
 use Rattle.fs_plain.specs.Replies.{is_error, is_interim}
-use Rattle.fs_core.specs.declared.part.Awaited.{Awaited}
-use Rattle.fs_core.specs.declared.part.Kind as kinds
-use Rattle.fs_core.specs.declared.part.Kind.TheVariants as kind
-use Rattle.fs_core.specs.declared.part.Look.{Look}
-use Rattle.fs_core.specs.declared.part.Look.TheVariants as look
+use Rattle.fs_core.specs.declared.reply_kind.Awaited.{Awaited}
+use Rattle.fs_core.specs.declared.reply_kind.ReplyFault as kinds
+use Rattle.fs_core.specs.declared.reply_kind.ReplyFault.TheVariants as kind
+use Rattle.fs_core.specs.declared.reply_kind.Look.{Look}
+use Rattle.fs_core.specs.declared.reply_kind.Look.TheVariants as look
 use Rattle.fs_core.specs.declared.wire.Stop.{Stop}
 use Rattle.fs_core.specs.declared.wire.Stop.TheVariants as stop
 use Rattle.fs_core.specs.Judged.{judged, judged_within, judged_by, judged_as, answered, look_of, look_with, looked_for, looked_by, look_at_reply, look_at_final, has_reply_body, is_notice}
 use Rattle.fs_core.specs.Course.{bytes_got, Decides, Tally, IsFaulty, AwaitedSo}
 
-abbrev is_credit : kinds.Kind → Bool
+abbrev is_credit : kinds.ReplyFault → Bool
 is_credit kind.Credit = true
 is_credit other = false
 
@@ -26,7 +26,7 @@ abbrev IsFair : Look → Type 0
 IsFair (look.Fault fault) = is_credit fault ≡ false
 IsFair other = Unit {0}
 
-abbrev IsFairly : Result (Option (List ℕ)) kinds.Kind → Type 0
+abbrev IsFairly : Result (Option (List ℕ)) kinds.ReplyFault → Type 0
 IsFairly (Err fault) = is_credit fault ≡ false
 IsFairly (Ok found) = Unit {0}
 
@@ -57,17 +57,17 @@ fair_with (Ok head) awaited message =
     fair_if (head.mid.0 == 2 ^ 64 - 1) (if is_notice head message then look.Passed else look.Fault kind.Body) (looked_for awaited head message)
     (fair_if (is_notice head message) look.Passed (look.Fault kind.Body) tt refl) (fair_looked awaited head message)
 
-fairly_answered : (part : List ℕ) (r : Result (Option (List ℕ)) kinds.Kind) → IsFairly r → IsFairly (answered part r)
+fairly_answered : (part : List ℕ) (r : Result (Option (List ℕ)) kinds.ReplyFault) → IsFairly r → IsFairly (answered part r)
 fairly_answered part (Err fault) is = is
 fairly_answered part (Ok found) is = tt
 
-fairly_as : (l : Look) (part : List ℕ) (awaited : Option Awaited) (others : Option Awaited → Result (Option (List ℕ)) kinds.Kind) → IsFair l → ((now : Option Awaited) → IsFairly (others now))
+fairly_as : (l : Look) (part : List ℕ) (awaited : Option Awaited) (others : Option Awaited → Result (Option (List ℕ)) kinds.ReplyFault) → IsFair l → ((now : Option Awaited) → IsFairly (others now))
     → IsFairly (judged_as l part awaited others)
 fairly_as look.Passed part awaited others fair each = each awaited
 fairly_as look.Final part awaited others fair each = fairly_answered part (others None) (each None)
 fairly_as (look.Fault fault) part awaited others fair each = fair
 
-fairly_by : (head : Result Head HeadFault) (step : Step) (awaited : Option Awaited) (others : Option Awaited → List ℕ → Result (Option (List ℕ)) kinds.Kind)
+fairly_by : (head : Result Head HeadFault) (step : Step) (awaited : Option Awaited) (others : Option Awaited → List ℕ → Result (Option (List ℕ)) kinds.ReplyFault)
     → ((now : Option Awaited) (rest : List ℕ) → IsFairly (others now rest)) → IsFairly (judged_by head step awaited others)
 fairly_by (Err fault) step awaited others each = refl
 fairly_by (Ok head) Bad awaited others each = refl

@@ -23,11 +23,11 @@ use Rattle.fs_plain.specs.Moves.{Leads, Leaves}
 use Rattle.fs_plain.proofs.Getting.{interim_related, aside_related, reply_related}
 use Rattle.fs_plain.proofs.Leading.{leads_nowhere, leads_then, leads_seen}
 use Rattle.fs_plain.proofs.Leaving.{leaves_now, leads_then_leaves, leaves_never, leaves_foul}
-use Rattle.fs_core.specs.declared.part.Awaited.{Awaited}
-use Rattle.fs_core.specs.declared.part.Kind as kinds
+use Rattle.fs_core.specs.declared.reply_kind.Awaited.{Awaited}
+use Rattle.fs_core.specs.declared.reply_kind.ReplyFault as kinds
 use Rattle.fs_core.specs.declared.wire.TheConstants.{MAX_FRAMES}
 use Rattle.fs_core.specs.declared.listen.Heard.TheVariants as heard
-use Rattle.fs_core.specs.declared.part.Kind.{Kind}
+use Rattle.fs_core.specs.declared.reply_kind.ReplyFault.{ReplyFault}
 use Rattle.fs_core.specs.declared.wire.Stop.{Stop}
 use Rattle.fs_core.specs.declared.wire.Stop.TheVariants as stop
 use Rattle.fs_core.specs.Foul.{is_foul}
@@ -146,7 +146,7 @@ call_lands request items begun f n part behind reply own command final says s r 
 none_some : (o : Option Rep) (reply : Rep) → o ≡ None → o ≡ Some reply → ⊥
 none_some o reply is is' = search rules
 
-says_by : (request : Awaited) (f : Flight) (n : ℕ) (part : List ℕ) (fault : kinds.Kind) (behind : List (List ℕ)) (owed' : List Owed) → f.owner ≡ Some n → command_of f.message ≡ request.command
+says_by : (request : Awaited) (f : Flight) (n : ℕ) (part : List ℕ) (fault : kinds.ReplyFault) (behind : List (List ℕ)) (owed' : List Owed) → f.owner ≡ Some n → command_of f.message ≡ request.command
     → IsFinal request part → SaysNothing request.command part fault → (paid : List Owed) → Settles paid (part ∷ behind) → Sound (f ∷ []) (paid ++ owed') → ⊥
 says_by request f n part fault behind owed' own command final nothing [] settled sound = absurd settled
 says_by request f n part fault behind owed' own command final nothing (owed.Interim m q ∷ paid) settled sound = not_interim request m q part final settled.0
@@ -160,7 +160,7 @@ says_by request f n part fault behind owed' own command final nothing (owed.Asid
     no _ (ap is_of_call own) one.1.1
 says_by request f n part fault behind owed' own command final nothing (owed.Notice key state ∷ paid) settled sound = sound
 
-pub says_something : (request : Awaited) (items : List Item) (begun : List ℕ) (f : Flight) (n : ℕ) (part : List ℕ) (fault : kinds.Kind) (behind : List (List ℕ)) → f.owner ≡ Some n
+pub says_something : (request : Awaited) (items : List Item) (begun : List ℕ) (f : Flight) (n : ℕ) (part : List ℕ) (fault : kinds.ReplyFault) (behind : List (List ℕ)) → f.owner ≡ Some n
     → command_of f.message ≡ request.command → IsFinal request part → SaysNothing request.command part fault
     → (s : Share) (r : Replay) → Related s r (with_hand (part ∷ behind) (awaiting items begun f)) → ⊥
 says_something request items begun f n part fault behind own command final nothing s r old =
@@ -239,7 +239,7 @@ pub waiting_body : (request : Awaited) (message part : List ℕ) → judged (Som
 waiting_body request message part found = let it : Replies request part (messages_among (parts_of message)) = brings request message (Some part) found in it.body
 
 -- a frame in which a fault is found is foul
-waiting_faulty : (request : Awaited) (begin now new : Option (List Event)) (held message : List ℕ) (received next first patience room : ℕ) (fault : Kind)
+waiting_faulty : (request : Awaited) (begin now new : Option (List Event)) (held message : List ℕ) (received next first patience room : ℕ) (fault : ReplyFault)
     → Waiting request begin now held received next first patience room → Hears held (heard.Frame message) now new → judged (Some request) message ≡ Err fault
     → (options : Options) (seed : List ℕ) (items : List Item) (begun : List ℕ) (f : Flight) → Awaits request f → Leaves options seed (awaiting items begun f) true begin new
 waiting_faulty request begin now new held message received next first patience room fault w hears is options seed items begun f awaits = by (all_ok (parts_of message)) refl

@@ -3,6 +3,7 @@ use Rattle.std.proofs.Common.{◌≡◌, ◌∙◌, ◌≤◌, ℕ, ◌+◌, fal
 use Rattle.std.proofs.lemmas.List.{append-nil}
 use Rattle.smb_base.specs.declared.names.Fid.{Fid}
 use Rattle.smb_le.specs.Numbers.{number_at}
+use Rattle.smb_head.specs.declared.command.TheConstants.{CLOSE, QUERY_INFO}
 use Rattle.smb_head.specs.declared.first.TheConstants.{MAX_FRAME}
 use Rattle.smb_head.specs.declared.head.Head.{Head}
 use Rattle.smb_head.specs.declared.head.HeadFault.{HeadFault}
@@ -15,35 +16,35 @@ use Rattle.smb_chain.proofs.PartLaws.{parts_of-step}
 use Rattle.smb_field.specs.declared.field.Field.{Field}
 use Rattle.smb_field.specs.Body.{IsBody, IsReadAgain, spelling}
 use Rattle.share_spec.specs.declared.request.Req.TheVariants as req
-use Rattle.fs_plain.specs.Requests.{Asked, asked, asked_with, by_command, close_asked, query_asked}
+use Rattle.fs_plain.specs.Requests.{WireRequest, wire_request, asked_with, by_command, close_asked, query_asked}
 use Rattle.fs_plain.specs.Replies.{command_of}
 use Rattle.fs_plain.specs.World.{mid_of, messages_of}
-use Rattle.fs_core.specs.declared.write.Place.{Place}
+use Rattle.fs_core.specs.declared.write.RequestPlace.{RequestPlace}
 use Rattle.fs_core.specs.Written.{request_head, message_of, IsAlone, close_fields, query_fields}
 
 -- its header is read again
-head_read : (place : Place) (command : ℕ) (body : List ℕ) → FitsHeader (request_head place command)
+head_read : (place : RequestPlace) (command : ℕ) (body : List ℕ) → FitsHeader (request_head place command)
     → head_of (message_of place command body) ≡ Ok (request_head place command)
 head_read place command body fits = head_of-header (request_head place command) body fits refl
 
 -- and so is its id
-pub mid_read : (place : Place) (command : ℕ) (body : List ℕ) → FitsHeader (request_head place command)
+pub mid_read : (place : RequestPlace) (command : ℕ) (body : List ℕ) → FitsHeader (request_head place command)
     → mid_of (message_of place command body) ≡ place.mid
 unfolding head_at
 mid_read place command body fits =
     sym (ap (λ (h : Head). h.mid) (is_header-header (request_head place command) body fits refl).fields)
 
 -- and its command
-pub command_read : (place : Place) (command : ℕ) (body : List ℕ) → FitsHeader (request_head place command)
+pub command_read : (place : RequestPlace) (command : ℕ) (body : List ℕ) → FitsHeader (request_head place command)
     → command_of (message_of place command body) ≡ command
 unfolding head_at
 command_read place command body fits =
     sym (ap (λ (h : Head). h.command) (is_header-header (request_head place command) body fits refl).fields)
 
 -- what it asks for goes by its command alone
-pub asked_by : (place : Place) (command : ℕ) (body : List ℕ) → FitsHeader (request_head place command)
-    → asked (message_of place command body) ≡ by_command command false (message_of place command body)
-unfolding asked
+pub asked_by : (place : RequestPlace) (command : ℕ) (body : List ℕ) → FitsHeader (request_head place command)
+    → wire_request (message_of place command body) ≡ by_command command false (message_of place command body)
+unfolding wire_request
 asked_by place command body fits =
     ap (λ (h : Result Head HeadFault). asked_with h (message_of place command body)) (head_read place command body fits)
 
@@ -52,7 +53,7 @@ unfolding step_of
 only_step m long last = grind arith
 
 -- it stands alone
-pub alone : (place : Place) (command : ℕ) (body : List ℕ) → FitsHeader (request_head place command) → length body ≤ 1000000
+pub alone : (place : RequestPlace) (command : ℕ) (body : List ℕ) → FitsHeader (request_head place command) → length body ≤ 1000000
     → IsAlone (message_of place command body)
 alone place command body fits few =
     let h = request_head place command in
@@ -66,32 +67,32 @@ alone place command body fits few =
     }
 
 -- a body that is read again stands in it
-body_stands : (place : Place) (command size : ℕ) (fields : List Field) → IsReadAgain size fields []
+body_stands : (place : RequestPlace) (command size : ℕ) (fields : List Field) → IsReadAgain size fields []
     → IsBody size fields [] (message_of place command (spelling size fields []))
 unfolding IsReadAgain
 body_stands place command size fields again =
     subst (λ (b : List ℕ). IsBody size fields [] (header (request_head place command) ++ b)) (append-nil (spelling size fields []))
     (again (header (request_head place command)) [] (length-header (request_head place command)))
 
-close_is : (fid : Fid) (m : List ℕ) → IsBody 24 (close_fields fid) [] m → close_asked false m ≡ Some (Asked.Share false (req.Close fid))
+close_is : (fid : Fid) (m : List ℕ) → IsBody 24 (close_fields fid) [] m → close_asked false m ≡ Some (WireRequest.Share false (req.Close fid))
 close_is fid m is = grind arith
 
 -- a CLOSE asks for one
-pub close_asks : (place : Place) (fid : Fid) → FitsHeader (request_head place 6) → IsReadAgain 24 (close_fields fid) []
-    → asked (message_of place 6 (spelling 24 (close_fields fid) [])) ≡ Some (Asked.Share false (req.Close fid))
+pub close_asks : (place : RequestPlace) (fid : Fid) → FitsHeader (request_head place CLOSE) → IsReadAgain 24 (close_fields fid) []
+    → wire_request (message_of place CLOSE (spelling 24 (close_fields fid) [])) ≡ Some (WireRequest.Share false (req.Close fid))
 close_asks place fid fits again =
-    asked_by place 6 (spelling 24 (close_fields fid) []) fits
-    ∙ close_is fid (message_of place 6 (spelling 24 (close_fields fid) [])) (body_stands place 6 24 (close_fields fid) again)
+    asked_by place CLOSE (spelling 24 (close_fields fid) []) fits
+    ∙ close_is fid (message_of place CLOSE (spelling 24 (close_fields fid) [])) (body_stands place CLOSE 24 (close_fields fid) again)
 
-query_is : (fid : Fid) (m : List ℕ) → IsBody 41 (query_fields fid) [] m → query_asked false m ≡ Some (Asked.Share false (req.Query fid))
+query_is : (fid : Fid) (m : List ℕ) → IsBody 41 (query_fields fid) [] m → query_asked false m ≡ Some (WireRequest.Share false (req.Query fid))
 query_is fid m is = grind arith
 
 -- a QUERY_INFO for everything asks for it
-pub query_asks : (place : Place) (fid : Fid) → FitsHeader (request_head place 16) → IsReadAgain 41 (query_fields fid) []
-    → asked (message_of place 16 (spelling 41 (query_fields fid) [])) ≡ Some (Asked.Share false (req.Query fid))
+pub query_asks : (place : RequestPlace) (fid : Fid) → FitsHeader (request_head place QUERY_INFO) → IsReadAgain 41 (query_fields fid) []
+    → wire_request (message_of place QUERY_INFO (spelling 41 (query_fields fid) [])) ≡ Some (WireRequest.Share false (req.Query fid))
 query_asks place fid fits again =
-    asked_by place 16 (spelling 41 (query_fields fid) []) fits
-    ∙ query_is fid (message_of place 16 (spelling 41 (query_fields fid) [])) (body_stands place 16 41 (query_fields fid) again)
+    asked_by place QUERY_INFO (spelling 41 (query_fields fid) []) fits
+    ∙ query_is fid (message_of place QUERY_INFO (spelling 41 (query_fields fid) [])) (body_stands place QUERY_INFO 41 (query_fields fid) again)
 
 frame_holds : (m : List ℕ) → length m ≤ MAX_FRAME → first_of (frame m) ≡ Whole m []
 frame_holds m small =

@@ -8,14 +8,14 @@ use Rattle.smb_head.specs.Stream.{frame}
 use Rattle.fs_types.specs.declared.options.Options.{Options}
 use Rattle.share_spec.specs.declared.request.Rep.{Rep}
 use Rattle.smb_link.specs.declared.event.Event.{Event}
-use Rattle.fs_plain.specs.Requests.{Asked, asked}
+use Rattle.fs_plain.specs.Requests.{WireRequest, wire_request}
 use Rattle.fs_plain.specs.World.{mid_of}
 use Rattle.fs_plain.specs.View.{Item, Flight, View, rest_after, opened_after, fids_after, with_flight}
 use Rattle.fs_plain.specs.Sends.{IsWish, MaySend}
 use Rattle.fs_plain.specs.Moves.{Leads, Leaves}
-use Rattle.fs_core.specs.declared.part.Awaited.{Awaited}
+use Rattle.fs_core.specs.declared.reply_kind.Awaited.{Awaited}
 use Rattle.fs_core.specs.declared.wire.Stop.{Stop}
-use Rattle.fs_core.specs.declared.write.Place.{Place}
+use Rattle.fs_core.specs.declared.write.RequestPlace.{RequestPlace}
 use Rattle.fs_core.specs.Foul.{foul_stop}
 use Rattle.fs_core.specs.Judged.{IsFinal}
 use Rattle.fs_core.specs.Written.{request_head, message_of}
@@ -24,7 +24,7 @@ use Rattle.fs_core.specs.Exchange.{resting, awaiting, Awaits}
 -- a message of this command with this body asks for something of the connection itself, wherever it belongs
 abbrev pub IsAsideBody : ℕ → List ℕ → Type 0
 IsAsideBody command body =
-    (place : Place) → FitsHeader (request_head place command) → asked (message_of place command body) ≡ Some Asked.Aside
+    (place : RequestPlace) → FitsHeader (request_head place command) → wire_request (message_of place command body) ≡ Some WireRequest.Aside
 
 -- a message is sent, where it may be, and is in flight; or the run ends
 abbrev pub SendLeads : List ℕ → Result (Unit {0}) Stop → Option (List Event) → Option (List Event) → Type 0

@@ -2,6 +2,7 @@
 -- end.
 use Rattle.std.specs.Prelude.{◌≡◌, ◌⊎◌, ◌≤◌, ℕ, ◌+◌, Bool, true, false, List, [], ◌∷◌, ◌++◌, length, Option, Some, None, Result, Ok, Err}
 use Rattle.std.specs.List.{list_all, AllByRecursion}
+use Rattle.smb_head.specs.declared.command.TheConstants.{QUERY_INFO}
 use Rattle.smb_head.specs.Stream.{Whole, Bad, first_of, frame, frames_in, rest_in}
 use Rattle.smb_head.specs.declared.first.FrameFault.{FrameFault}
 use Rattle.smb_head.specs.Header.{head_of}
@@ -21,9 +22,9 @@ use Rattle.fs_plain.specs.World.{mid_of}
 use Rattle.fs_plain.specs.Replies.{command_of, reply_by_status}
 use Rattle.fs_core.specs.declared.listen.Heard.{Heard}
 use Rattle.fs_core.specs.declared.listen.Heard.TheVariants as heard
-use Rattle.fs_core.specs.declared.part.Awaited.{Awaited}
-use Rattle.fs_core.specs.declared.part.Kind as kinds
-use Rattle.fs_core.specs.declared.part.Kind.TheVariants as kind
+use Rattle.fs_core.specs.declared.reply_kind.Awaited.{Awaited}
+use Rattle.fs_core.specs.declared.reply_kind.ReplyFault as kinds
+use Rattle.fs_core.specs.declared.reply_kind.ReplyFault.TheVariants as kind
 use Rattle.fs_core.specs.declared.wire.Stop.{Stop}
 use Rattle.fs_core.specs.declared.wire.Stop.TheVariants as stop
 use Rattle.fs_core.specs.declared.wire.Wire.{Wire}
@@ -85,7 +86,7 @@ abbrev pub ArePassed : Awaited → List (List ℕ) → Type 0
 ArePassed request frames = AllByRecursion (λ (f : List ℕ). judged (Some request) f ≡ Ok None) frames
 
 -- whole frames came, and nothing behind them; all before the last are passed over, and the last one decides so
-pub record Decides (request : Awaited) (bytes : List ℕ) (verdict : Result (Option (List ℕ)) kinds.Kind) : Type 0 where
+pub record Decides (request : Awaited) (bytes : List ℕ) (verdict : Result (Option (List ℕ)) kinds.ReplyFault) : Type 0 where
   pub passed : List (List ℕ)
   pub last : List ℕ
   pub frames : frames_in bytes ≡ passed ++ last ∷ []
@@ -132,7 +133,7 @@ tallied t events = record {
 }
 
 -- the frame with this number, of those that came, is faulty: by its bytes, or by its messages
-abbrev pub IsFaulty : Awaited → List ℕ → kinds.Kind → ℕ → Type 0
+abbrev pub IsFaulty : Awaited → List ℕ → kinds.ReplyFault → ℕ → Type 0
 IsFaulty request bytes fault number =
     ((fault ≡ kind.Length) × Breaks request bytes × (number ≡ frames_got bytes + 1))
     ⊎ (Decides request bytes (Err fault) × (number ≡ frames_got bytes))
@@ -169,12 +170,12 @@ RequestedSo number mid message result events =
 
 -- A final reply to this command whose body says nothing that the client can use, with this fault: that of its body or, for a QUERY_INFO,
 -- that of the information in it.
-abbrev pub SaysNothingWith : Result Head HeadFault → ℕ → List ℕ → kinds.Kind → Type 0
+abbrev pub SaysNothingWith : Result Head HeadFault → ℕ → List ℕ → kinds.ReplyFault → Type 0
 SaysNothingWith (Err bad) command part fault = fault ≡ kind.Head
 SaysNothingWith (Ok head) command part fault =
-    (reply_by_status head.status.0 command part ≡ None) × ((fault ≡ kind.Body) ⊎ ((fault ≡ kind.Info) × (command ≡ 16)))
+    (reply_by_status head.status.0 command part ≡ None) × ((fault ≡ kind.Body) ⊎ ((fault ≡ kind.Info) × (command ≡ QUERY_INFO)))
 
-abbrev pub SaysNothing : ℕ → List ℕ → kinds.Kind → Type 0
+abbrev pub SaysNothing : ℕ → List ℕ → kinds.ReplyFault → Type 0
 SaysNothing command part fault = SaysNothingWith (head_of part) command part fault
 
 -- the stop at such a reply
@@ -183,7 +184,7 @@ StopsUnread command part (stop.Fault fault) = SaysNothing command part fault
 StopsUnread command part why = ⊥
 
 -- the last frame holds the final reply, and its body says nothing
-abbrev pub IsUnread : Awaited → List ℕ → kinds.Kind → ℕ → Type 0
+abbrev pub IsUnread : Awaited → List ℕ → kinds.ReplyFault → ℕ → Type 0
 IsUnread request bytes fault number =
     (part : List ℕ) × Decides request bytes (Ok (Some part)) × SaysNothing request.command part fault × (number ≡ frames_got bytes)
 
@@ -236,7 +237,7 @@ IsInTurn events = (last : List Event) × InTurn events last
 
 -- Of the frames that answer the last request that was sent the last one is faulty: by its bytes, by its messages, or by what the reply
 -- says. Its number is counted over all frames that came.
-pub record FaultAt (before after : Tally) (fault : kinds.Kind) (events : List Event) : Type 0 where
+pub record FaultAt (before after : Tally) (fault : kinds.ReplyFault) (events : List Event) : Type 0 where
   pub front : List Event
   pub exchanges : List (List ℕ × List ℕ)
   pub message : List ℕ
@@ -249,7 +250,7 @@ pub record FaultAt (before after : Tally) (fault : kinds.Kind) (events : List Ev
   pub counted : after.frames ≡ before.frames + frames_got (bytes_got front) + number
 
 -- a request waits, and no id may be used: as many were used as all frames that came granted
-pub record StarvesAt (before after : Tally) (fault : kinds.Kind) (events : List Event) : Type 0 where
+pub record StarvesAt (before after : Tally) (fault : kinds.ReplyFault) (events : List Event) : Type 0 where
   pub is : fault ≡ kind.Credit
   pub exchanges : List (List ℕ × List ℕ)
   pub one_by_one : OneByOne exchanges events

@@ -5,7 +5,7 @@ use Rattle.smb_link.specs.declared.event.Event.{Event}
 use Rattle.fs_plain.specs.Replies.{command_of}
 use Rattle.fs_plain.specs.View.{Item, Flight, View, with_hand}
 use Rattle.fs_plain.specs.Moves.{Leads, Leaves}
-use Rattle.fs_core.specs.declared.part.Awaited.{Awaited}
+use Rattle.fs_core.specs.declared.reply_kind.Awaited.{Awaited}
 use Rattle.fs_core.specs.declared.wire.Stop.{Stop}
 use Rattle.fs_core.specs.declared.wire.Stop.TheVariants as stop
 use Rattle.fs_core.specs.Foul.{foul_stop}

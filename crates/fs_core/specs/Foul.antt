@@ -1,12 +1,12 @@
 -- Which stops are foul: by what the server sent, which no honest share sends.
 use Rattle.std.specs.Prelude.{Bool, true, false}
-use Rattle.fs_core.specs.declared.part.Kind as kinds
-use Rattle.fs_core.specs.declared.part.Kind.TheVariants as kind
+use Rattle.fs_core.specs.declared.reply_kind.ReplyFault as kinds
+use Rattle.fs_core.specs.declared.reply_kind.ReplyFault.TheVariants as kind
 use Rattle.fs_core.specs.declared.wire.Stop.{Stop}
 use Rattle.fs_core.specs.declared.wire.Stop.TheVariants as stop
 
 -- every fault but the want of an id, since nothing is said of what credits a share grants
-abbrev pub is_foul : kinds.Kind → Bool
+abbrev pub is_foul : kinds.ReplyFault → Bool
 is_foul kind.Credit = false
 is_foul other = true
 

@@ -2,6 +2,7 @@
 use Rattle.std.specs.Prelude.{◌≡◌, ◌<◌, ◌⊎◌, IfSome, ℕ, zero, suc, ◌==◌, ◌^◌, ◌-◌, Bool, true, false, ◌&&◌, ◌||◌, if◌then◌else◌, List, ◌∷◌, ◌++◌, length, Option, Some, None, is_some, Result, Ok, Err}
 use Rattle.std.specs.List.{AllByRecursion}
 use Rattle.smb_le.specs.Numbers.{number_at}
+use Rattle.smb_head.specs.declared.command.TheConstants.{CREATE, CLOSE, QUERY_INFO, OPLOCK_BREAK}
 use Rattle.smb_head.specs.declared.head.Head.{Head}
 use Rattle.smb_head.specs.declared.head.HeadFault.{HeadFault}
 use Rattle.smb_head.specs.Header.{head_of}
@@ -10,11 +11,11 @@ use Rattle.share_spec.specs.State.{has}
 use Rattle.fs_plain.specs.Wire.{has_body, lies}
 use Rattle.share_spec.specs.declared.request.Rep.{Rep}
 use Rattle.fs_plain.specs.Replies.{is_error, is_interim, opened_in, is_aside_by_status, reply_by_status}
-use Rattle.fs_core.specs.declared.part.Awaited.{Awaited}
-use Rattle.fs_core.specs.declared.part.Kind as kinds
-use Rattle.fs_core.specs.declared.part.Kind.TheVariants as kind
-use Rattle.fs_core.specs.declared.part.Look.{Look}
-use Rattle.fs_core.specs.declared.part.Look.TheVariants as look
+use Rattle.fs_core.specs.declared.reply_kind.Awaited.{Awaited}
+use Rattle.fs_core.specs.declared.reply_kind.ReplyFault as kinds
+use Rattle.fs_core.specs.declared.reply_kind.ReplyFault.TheVariants as kind
+use Rattle.fs_core.specs.declared.reply_kind.Look.{Look}
+use Rattle.fs_core.specs.declared.reply_kind.Look.TheVariants as look
 use Rattle.fs_core.specs.declared.judge.Walked.{Walked}
 use Rattle.fs_core.specs.declared.judge.Walked.TheVariants as walk
 use Rattle.fs_core.specs.Seen.{is_done}
@@ -24,8 +25,8 @@ use denote.Ref.{Bor}
 -- asked later
 abbrev pub has_done_body : ℕ → List ℕ → Bool
 has_done_body command message =
-    if command == 5 then is_some (opened_in message)
-    else if command == 6 then has_body 60 message
+    if command == CREATE then is_some (opened_in message)
+    else if command == CLOSE then has_body 60 message
     else has_body 9 message && lies 9 (number_at 2 66 message) (number_at 4 68 message) message
 
 abbrev pub has_share_body : ℕ → ℕ → List ℕ → Bool
@@ -34,11 +35,11 @@ has_share_body status command message = if is_done status command then has_done_
 -- a final reply of this status to this command has the body that it should have
 abbrev pub has_reply_body : ℕ → ℕ → List ℕ → Bool
 has_reply_body status command message =
-    if command == 5 || command == 6 || command == 16 then has_share_body status command message else is_aside_by_status status command message
+    if command == CREATE || command == CLOSE || command == QUERY_INFO then has_share_body status command message else is_aside_by_status status command message
 
 -- the notice that a lease is broken (MS-SMB2 2.2.23.2)
 abbrev pub is_notice : Head → List ℕ → Bool
-is_notice head message = head.command == 18 && has head.flags.0 1 && head.status.0 == 0 && has_body 44 message
+is_notice head message = head.command == OPLOCK_BREAK && has head.flags.0 1 && head.status.0 == 0 && has_body 44 message
 
 -- a reply to the request that is awaited: an interim one, or the final one
 abbrev pub look_at_final : Head → List ℕ → Look
@@ -73,40 +74,40 @@ abbrev pub look_of : Option Awaited → List ℕ → Look
 look_of awaited message = look_with (head_of message) awaited message
 
 -- an answer before the messages behind it are judged, and what they come to; the first fault decides
-abbrev pub answered : List ℕ → Result (Option (List ℕ)) kinds.Kind → Result (Option (List ℕ)) kinds.Kind
+abbrev pub answered : List ℕ → Result (Option (List ℕ)) kinds.ReplyFault → Result (Option (List ℕ)) kinds.ReplyFault
 answered part (Err fault) = Err fault
 answered part (Ok found) = Ok (Some part)
 
-abbrev pub judged_as : Look → List ℕ → Option Awaited → (Option Awaited → Result (Option (List ℕ)) kinds.Kind) → Result (Option (List ℕ)) kinds.Kind
+abbrev pub judged_as : Look → List ℕ → Option Awaited → (Option Awaited → Result (Option (List ℕ)) kinds.ReplyFault) → Result (Option (List ℕ)) kinds.ReplyFault
 judged_as look.Passed part awaited others = others awaited
 judged_as look.Final part awaited others = answered part (others None)
 judged_as (look.Fault fault) part awaited others = Err fault
 
 -- the messages from one on: its header, its place in the chain, and what it is; once the request is answered none is awaited
-abbrev pub judged_by : Result Head HeadFault → Step → Option Awaited → (Option Awaited → List ℕ → Result (Option (List ℕ)) kinds.Kind)
-    → Result (Option (List ℕ)) kinds.Kind
+abbrev pub judged_by : Result Head HeadFault → Step → Option Awaited → (Option Awaited → List ℕ → Result (Option (List ℕ)) kinds.ReplyFault)
+    → Result (Option (List ℕ)) kinds.ReplyFault
 judged_by (Err fault) step awaited others = Err kind.Head
 judged_by (Ok head) Bad awaited others = Err kind.Chain
 judged_by (Ok head) (Only part) awaited others = judged_as (look_of awaited part) part awaited (λ now. Ok None)
 judged_by (Ok head) (Then part rest) awaited others = judged_as (look_of awaited part) part awaited (λ now. others now rest)
 
 -- n messages at most
-abbrev pub judged_within : ℕ → Option Awaited → List ℕ → Result (Option (List ℕ)) kinds.Kind
+abbrev pub judged_within : ℕ → Option Awaited → List ℕ → Result (Option (List ℕ)) kinds.ReplyFault
 judged_within zero awaited bytes = Ok None
 judged_within (suc n) awaited bytes = judged_by (head_of bytes) (step_of bytes) awaited (judged_within n)
 
 -- the messages of a frame, one after the other: the final reply to the request that is awaited, none, or the first fault
-unfoldable pub judged : Option Awaited → List ℕ → Result (Option (List ℕ)) kinds.Kind
+unfoldable pub judged : Option Awaited → List ℕ → Result (Option (List ℕ)) kinds.ReplyFault
 judged awaited frame = judged_within (suc (length frame)) awaited frame
 
 -- what comes next of these bytes: a step, where they begin with a header and name no bad place
-abbrev pub next_of : Result Head HeadFault → Step → Result Step kinds.Kind
+abbrev pub next_of : Result Head HeadFault → Step → Result Step kinds.ReplyFault
 next_of (Err fault) step = Err kind.Head
 next_of (Ok head) Bad = Err kind.Chain
 next_of (Ok head) (Only part) = Ok (Only part)
 next_of (Ok head) (Then part rest) = Ok (Then part rest)
 
-abbrev pub seen_next : Result (Bor (List ℕ) × Option (Bor (List ℕ))) kinds.Kind → Result Step kinds.Kind
+abbrev pub seen_next : Result (Bor (List ℕ) × Option (Bor (List ℕ))) kinds.ReplyFault → Result Step kinds.ReplyFault
 seen_next (Ok p) = Ok (step_from p.0.now p.1)
 seen_next (Err fault) = Err fault
 
@@ -120,22 +121,22 @@ abbrev pub seen_part : Option (Bor (List ℕ)) → Option (List ℕ)
 seen_part None = None
 seen_part (Some part) = Some part.now
 
-abbrev pub seen_judged : Result (Option (Bor (List ℕ))) kinds.Kind → Result (Option (List ℕ)) kinds.Kind
+abbrev pub seen_judged : Result (Option (Bor (List ℕ))) kinds.ReplyFault → Result (Option (List ℕ)) kinds.ReplyFault
 seen_judged (Err fault) = Err fault
 seen_judged (Ok found) = Ok (seen_part found)
 
 -- what was found before, and what is left comes to this
-abbrev pub with_found : Option (List ℕ) → Result (Option (List ℕ)) kinds.Kind → Result (Option (List ℕ)) kinds.Kind
+abbrev pub with_found : Option (List ℕ) → Result (Option (List ℕ)) kinds.ReplyFault → Result (Option (List ℕ)) kinds.ReplyFault
 with_found None others = others
 with_found (Some part) others = answered part others
 
 -- what the messages from the next one on come to
-abbrev pub others_left : Option Awaited → Option (Bor (List ℕ)) → Result (Option (List ℕ)) kinds.Kind
+abbrev pub others_left : Option Awaited → Option (Bor (List ℕ)) → Result (Option (List ℕ)) kinds.ReplyFault
 others_left now None = Ok None
 others_left now (Some rest) = judged now rest.now
 
 -- what the walk comes to from here on
-abbrev pub walked : Walked → Result (Option (List ℕ)) kinds.Kind
+abbrev pub walked : Walked → Result (Option (List ℕ)) kinds.ReplyFault
 walked (walk.On now found rest) = with_found (seen_part found) (others_left now rest)
 walked (walk.Fault fault) = Err fault
 

@@ -1,6 +1,7 @@
 -- What a reply says.
 use Rattle.std.specs.Prelude.{◌≡◌, ℕ, ◌==◌, Bool, ◌&&◌, ◌||◌, List, slice_index, Option, Some, None, Result, Ok, Err}
 use Rattle.smb_le.specs.Numbers.{number_at}
+use Rattle.smb_head.specs.declared.command.TheConstants.{CREATE, CLOSE, QUERY_INFO}
 use Rattle.smb_body_b.specs.declared.create.CreateReply.{CreateReply}
 use Rattle.share_spec.specs.declared.request.Rep.{Rep}
 use Rattle.share_spec.specs.declared.request.RepBody.{RepBody}
@@ -26,15 +27,15 @@ IsOfBody (fault.Info why) = ⊥
 
 abbrev pub IsOfReply : ℕ → WireFault → Type 0
 IsOfReply command (fault.Body why) = Unit {0}
-IsOfReply command (fault.Info why) = command ≡ 16
+IsOfReply command (fault.Info why) = command ≡ QUERY_INFO
 
 -- a reply of this status to this command has the command's own body
 abbrev pub is_done : ℕ → ℕ → Bool
-is_done status command = status == 0 || (status == 0x80000005 && command == 16)
+is_done status command = status == 0 || (status == 0x80000005 && command == QUERY_INFO)
 
 -- the commands whose replies are read: CREATE, CLOSE and QUERY_INFO
 abbrev pub is_known : ℕ → Bool
-is_known command = command == 5 || command == 6 || command == 16
+is_known command = command == CREATE || command == CLOSE || command == QUERY_INFO
 
 -- a message has the body of a reply to a CREATE, whose contexts lie in it
 abbrev pub is_opened : List ℕ → Bool

@@ -11,10 +11,10 @@ use Rattle.smb_head.specs.declared.head.Route.TheVariants.{Sync}
 use Rattle.smb_head.specs.Header.{header}
 use Rattle.smb_chain.specs.Parts.{parts_of}
 use Rattle.fs_plain.specs.Taken.{wished_attributes}
-use Rattle.fs_core.specs.declared.write.Place.{Place}
+use Rattle.fs_core.specs.declared.write.RequestPlace.{RequestPlace}
 
 -- the header of a request: 32 credits are asked for, it has no flag, and no message follows it
-abbrev pub request_head : Place → ℕ → Head
+abbrev pub request_head : RequestPlace → ℕ → Head
 request_head place command = record {
   charge = place.charge;
   status = record { 0 = 0 };
@@ -28,7 +28,7 @@ request_head place command = record {
 }
 
 -- a request with this body
-abbrev pub message_of : Place → ℕ → List ℕ → List ℕ
+abbrev pub message_of : RequestPlace → ℕ → List ℕ → List ℕ
 message_of place command body = header (request_head place command) ++ body
 
 -- a message that stands alone in its frame

@@ -4,7 +4,7 @@ ghost use Rattle.std.specs.Prelude.{◌≡◌, ◌+◌, ◌<◌, ◌≤◌, ◌�
 ghost use Rattle.smb_link.specs.declared.event.Event.TheVariants as event;
 ghost use Rattle.smb_link.specs.declared.mark.Mark.TheVariants as mark;
 ghost use Rattle.smb_link.specs.Story.{Gains};
-ghost use Rattle.fs_core.specs.declared.part.Kind.TheVariants as kind;
+ghost use Rattle.fs_core.specs.declared.reply_kind.ReplyFault.TheVariants as kind;
 ghost use Rattle.fs_core.specs.declared.wire.Stop.TheVariants as stop;
 ghost use Rattle.fs_core.specs.declared.wire.TheConstants.{MAX_FRAMES};
 ghost use Rattle.fs_core.specs.Written.{IsAlone};
@@ -14,10 +14,10 @@ ghost use Rattle.smb_link.specs.Came.{seen_by, Came};
 ghost use Rattle.fs_core.specs.Course.{Does, tally_of, SentSo, RequestedSo, AskedSo, AnsweredSo, StopsUnread};
 
 use crate::exchange::await_reply;
-use crate::part::{Awaited, Kind};
+use crate::reply_kind::{Awaited, ReplyFault};
 use crate::read::{WireFault, read_reply};
 use crate::wire::{Stop, Wire};
-use crate::write::{Place, framed, plain_message};
+use crate::write::{RequestPlace, framed, plain_message};
 use share_spec::Rep;
 use smb_base::{Bytes, Mid, NoMemory};
 use smb_head::{Request, read_head};
@@ -55,9 +55,9 @@ pub fn ask<L: Link, C: Clock>(
 {
     let mid = match wire.take_id() {
         Some(mid) => mid,
-        None => return Err(Stop::Fault(Kind::Credit)),
+        None => return Err(Stop::Fault(ReplyFault::Credit)),
     };
-    let place = Place {
+    let place = RequestPlace {
         mid,
         charge: request.charge,
         session: request.session,
@@ -166,11 +166,11 @@ fn read_final(part: &[u8], command: u16) -> Result<Rep, Stop>
 {
     let head = match read_head(part) {
         Ok(head) => head,
-        Err(_) => return Err(Stop::Fault(Kind::Head)),
+        Err(_) => return Err(Stop::Fault(ReplyFault::Head)),
     };
     match read_reply(command, head.status, part) {
         Ok(rep) => Ok(rep),
-        Err(WireFault::Body(_)) => Err(Stop::Fault(Kind::Body)),
-        Err(WireFault::Info(_)) => Err(Stop::Fault(Kind::Info)),
+        Err(WireFault::Body(_)) => Err(Stop::Fault(ReplyFault::Body)),
+        Err(WireFault::Info(_)) => Err(Stop::Fault(ReplyFault::Info)),
     }
 }

@@ -8,7 +8,7 @@ ghost use Rattle.fs_core.specs.Exchange.{ReplyLeads};
 ghost use Rattle.fs_core.specs.Course.{Does, tally_of, AwaitedSo};
 
 use crate::listen::{Heard, hear};
-use crate::part::{Awaited, Kind};
+use crate::reply_kind::{Awaited, ReplyFault};
 use crate::wire::{Stop, Wire};
 use smb_base::Bytes;
 use smb_link::{Clock, Link};
@@ -51,7 +51,7 @@ pub fn await_reply<L: Link, C: Clock>(
             Heard::Silent => return Err(Stop::Silent),
             Heard::Bad(_) => {
                 wire.received += 1;
-                return Err(Stop::Fault(Kind::Length));
+                return Err(Stop::Fault(ReplyFault::Length));
             }
             Heard::NoMemory => return Err(Stop::NoMemory),
         }

@@ -5,7 +5,7 @@ ghost use Rattle.smb_head.specs.Header.{head_of};
 ghost use Rattle.smb_chain.specs.Parts.{step_of};
 ghost use Rattle.fs_core.specs.Judged.{judged, seen_judged, seen_part, first_found, with_found, walked, GoesShorter, next_of, seen_next};
 
-use crate::part::{Awaited, Kind, Look, look_at};
+use crate::reply_kind::{Awaited, ReplyFault, Look, look_at};
 use smb_chain::{BadNext, first_part};
 use smb_head::read_head;
 
@@ -18,7 +18,7 @@ use smb_head::read_head;
 /// The first fault, at the first message that has one: no header, a bad place of the next message, an id of no awaited request, another
 /// command, no flag of replies, or another body than the status says.
 #[tactic(auto, using(crate::proofs::Judging::found_alone))]
-pub fn final_reply(frame: &[u8], awaited: Awaited) -> Result<Option<&[u8]>, Kind>
+pub fn final_reply(frame: &[u8], awaited: Awaited) -> Result<Option<&[u8]>, ReplyFault>
     ensures exact { seen_judged result ≡ judged (Some awaited) frame.now }
 {
     let mut left = frame;
@@ -41,7 +41,7 @@ pub fn final_reply(frame: &[u8], awaited: Awaited) -> Result<Option<&[u8]>, Kind
 enum Walked<'a> {
     // What is awaited now, the reply that was found, and the bytes from the next message on.
     On(Option<Awaited>, Option<&'a [u8]>, Option<&'a [u8]>),
-    Fault(Kind),
+    Fault(ReplyFault),
 }
 
 // Judges the first message of these bytes.
@@ -61,17 +61,17 @@ fn step<'a>(bytes: &'a [u8], now: Option<Awaited>, found: Option<&'a [u8]>) -> W
 }
 
 // The first message of these bytes, which has a header, and the bytes behind it.
-fn next_part(bytes: &[u8]) -> Result<(&[u8], Option<&[u8]>), Kind>
+fn next_part(bytes: &[u8]) -> Result<(&[u8], Option<&[u8]>), ReplyFault>
     ensures exact { seen_next result ≡ next_of (head_of bytes.now) (step_of bytes.now) }
     ensures shorter { IfOk result (λ p. IfSome p.1 (λ rest. length rest.now < length bytes.now)) }
 {
     match read_head(bytes) {
         Ok(_) => {}
-        Err(_) => return Err(Kind::Head),
+        Err(_) => return Err(ReplyFault::Head),
     }
     match first_part(bytes) {
         Ok(next) => Ok(next),
-        Err(BadNext) => Err(Kind::Chain),
+        Err(BadNext) => Err(ReplyFault::Chain),
     }
 }
 

@@ -7,7 +7,7 @@ mod judge;
 mod listen;
 #[cfg(test)]
 mod listen_tests;
-mod part;
+mod reply_kind;
 mod read;
 #[cfg(test)]
 mod tests;
@@ -18,7 +18,7 @@ pub use asking::{ask, send_request, take_reply};
 pub use exchange::await_reply;
 pub use judge::final_reply;
 pub use listen::{Heard, hear};
-pub use part::{Awaited, Kind, Look};
+pub use reply_kind::{Awaited, ReplyFault, Look};
 pub use read::{WireFault, read_reply};
 pub use wire::{MAX_FRAMES, Stop, Wire};
-pub use write::{Place, close_message, create_message, framed, plain_message, query_message};
+pub use write::{RequestPlace, close_message, create_message, framed, plain_message, query_message};

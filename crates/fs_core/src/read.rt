@@ -15,17 +15,9 @@ use smb_body_b::{
     BodyFault, ContextSet, CreateReply, read_close_reply, read_contexts, read_create_reply,
 };
 use smb_body_c::{read_buffer_reply, read_error_reply};
+use smb_head::command::{CLOSE, CREATE, QUERY_INFO};
 use smb_info::{All, InfoFault, read_all};
 use thiserror::Error;
-
-/// The command CREATE (MS-SMB2 2.2.13).
-pub(crate) const CREATE: u16 = 5;
-
-/// The command CLOSE (MS-SMB2 2.2.15).
-pub(crate) const CLOSE: u16 = 6;
-
-/// The command QUERY_INFO (MS-SMB2 2.2.37).
-pub(crate) const QUERY_INFO: u16 = 16;
 
 /// The oplock level that says that a lease was granted (MS-SMB2 2.2.14).
 const LEASE: u8 = 0xFF;
@@ -47,7 +39,7 @@ pub enum WireFault {
     Info(InfoFault),
 }
 
-/// What the final reply with this status says to a request with this command: a CREATE (5), a CLOSE (6) or a QUERY_INFO (16).
+/// What the final reply with this status says to a request with this command: a CREATE, a CLOSE or a QUERY_INFO.
 /// `part` is the whole message, header and body. A query that knows more than was asked for counts as done. It takes no memory.
 ///
 /// # Errors

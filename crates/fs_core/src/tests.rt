@@ -1,7 +1,7 @@
 //! Messages byte by byte, and what each kind of reply says.
 
 use crate::{
-    Place, WireFault, close_message, create_message, framed, plain_message, query_message,
+    RequestPlace, WireFault, close_message, create_message, framed, plain_message, query_message,
     read_reply,
 };
 use share_spec::{Rep, RepBody};
@@ -16,7 +16,7 @@ use std::alloc::{AllocGlobal, Global};
 use std::process::Abort;
 use std::test::Fail;
 
-const PLACE: Place = Place {
+const PLACE: RequestPlace = RequestPlace {
     mid: Mid(0x0807_0605_0403_0201),
     charge: 1,
     session: 0x1817_1615_1413_1211,

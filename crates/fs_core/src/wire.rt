@@ -9,7 +9,7 @@ ghost use Rattle.fs_core.specs.Exchange.{TakesFrame};
 ghost use Rattle.fs_core.specs.Credits.{granted_by, granted_in, grown};
 
 use crate::judge::final_reply;
-use crate::part::{Awaited, Kind};
+use crate::reply_kind::{Awaited, ReplyFault};
 use smb_base::{Bytes, Mid, NoMemory};
 use smb_chain::split;
 use smb_head::{Frames, read_head};
@@ -41,7 +41,7 @@ pub enum Stop {
     /// Nothing came for as long as the client is patient.
     Silent,
     /// What came is wrong.
-    Fault(Kind),
+    Fault(ReplyFault),
     /// As many frames came as a run may take.
     Frames,
 }

@@ -8,7 +8,7 @@ ghost use Rattle.smb_head.specs.Header.{FitsHeader, header};
 ghost use Rattle.smb_head.specs.Stream.{frame, first_of};
 ghost use Rattle.share_spec.specs.declared.request.Req.TheVariants as req;
 ghost use Rattle.fs_plain.specs.Wire.{units_in};
-ghost use Rattle.fs_plain.specs.Requests.{asked, Asked as wire};
+ghost use Rattle.fs_plain.specs.Requests.{wire_request, WireRequest};
 ghost use Rattle.fs_plain.specs.Replies.{command_of};
 ghost use Rattle.fs_plain.specs.World.{mid_of, messages_of};
 ghost use Rattle.fs_plain.specs.Taken.{wished_attributes};
@@ -18,18 +18,10 @@ ghost use Rattle.fs_core.specs.Written.{request_head, message_of, IsAlone, AreUn
 use smb_base::{Bytes, Fid, Mid, NoMemory, Status, Units};
 use smb_body_b::{CloseRequest, CreateRequest, write_close_request, write_create_request};
 use smb_body_c::{QueryInfoRequest, write_query_info_request};
+use smb_head::command::{CLOSE, CREATE, QUERY_INFO};
 use smb_head::{Head, MAX_FRAME, Route, frame_start, write_head};
 use smb_le::HeadFlags;
 use std::alloc::Global;
-
-/// The command CREATE (MS-SMB2 2.2.13).
-const CREATE: u16 = 5;
-
-/// The command CLOSE (MS-SMB2 2.2.15).
-const CLOSE: u16 = 6;
-
-/// The command QUERY_INFO (MS-SMB2 2.2.37).
-const QUERY_INFO: u16 = 16;
 
 /// How many credits each request asks for.
 const CREDITS: u16 = 32;
@@ -54,7 +46,7 @@ const OUTPUT: u32 = 1_024;
 
 /// Where a request belongs, and what it costs.
 #[derive(Clone, Copy, Debug, PartialEq, Eq)]
-pub struct Place {
+pub struct RequestPlace {
     /// Its id.
     pub mid: Mid,
     /// How many credits it costs.
@@ -66,7 +58,7 @@ pub struct Place {
 }
 
 // The header of a request.
-fn request_head(place: Place, command: u16) -> Head
+fn request_head(place: RequestPlace, command: u16) -> Head
     ensures value { result ≡ request_head place command }
     ensures fits { FitsHeader (request_head place command) }
 {
@@ -84,7 +76,7 @@ fn request_head(place: Place, command: u16) -> Head
 }
 
 // A message that is its header so far.
-fn start(alloc: Global, place: Place, command: u16) -> Result<Vec<u8>, NoMemory>
+fn start(alloc: Global, place: RequestPlace, command: u16) -> Result<Vec<u8>, NoMemory>
     ensures value { IfOk result (λ out. out.items ≡ header (request_head place command)) }
     ensures fits { FitsHeader (request_head place command) }
 {
@@ -101,7 +93,7 @@ fn start(alloc: Global, place: Place, command: u16) -> Result<Vec<u8>, NoMemory>
 /// Want of memory alone.
 pub fn create_message(
     alloc: Global,
-    place: Place,
+    place: RequestPlace,
     path: &Units,
     access: u32,
     disposition: u32,
@@ -110,12 +102,12 @@ pub fn create_message(
     requires short { 2 * length path.now < 2 ^ 16 }
     requires low { 1 ≤ disposition }
     requires high { disposition ≤ 5 }
-    ensures whole { IfOk result (λ m. m ≡ message_of place 5 (spelling_of_two 57
+    ensures whole { IfOk result (λ m. m ≡ message_of place CREATE (spelling_of_two 57
         (create_fields access disposition options (bytes_of_units path.now)) (bytes_of_units path.now) [])) }
-    ensures asked { IfOk result (λ m. asked m ≡ Some (wire.Share false
+    ensures asked { IfOk result (λ m. wire_request m ≡ Some (WireRequest.Share false
         (req.Create path.now access 7 disposition options (wished_attributes options) None false))) }
     ensures mid { IfOk result (λ m. mid_of m ≡ place.mid) }
-    ensures command { IfOk result (λ m. command_of m ≡ 5) }
+    ensures command { IfOk result (λ m. command_of m ≡ CREATE) }
     ensures alone { IfOk result (λ m. IsAlone m) }
 {
     let name = name_of(alloc, path.as_slice())?;
@@ -206,11 +198,11 @@ fn put_unit(bytes: &mut Vec<u8>, unit: u16) -> Result<(), NoMemory>
 /// # Errors
 ///
 /// Want of memory alone.
-pub fn query_message(alloc: Global, place: Place, fid: Fid) -> Result<Bytes, NoMemory>
-    ensures whole { IfOk result (λ m. m ≡ message_of place 16 (spelling 41 (query_fields fid) [])) }
-    ensures asked { IfOk result (λ m. asked m ≡ Some (wire.Share false (req.Query fid))) }
+pub fn query_message(alloc: Global, place: RequestPlace, fid: Fid) -> Result<Bytes, NoMemory>
+    ensures whole { IfOk result (λ m. m ≡ message_of place QUERY_INFO (spelling 41 (query_fields fid) [])) }
+    ensures asked { IfOk result (λ m. wire_request m ≡ Some (WireRequest.Share false (req.Query fid))) }
     ensures mid { IfOk result (λ m. mid_of m ≡ place.mid) }
-    ensures command { IfOk result (λ m. command_of m ≡ 16) }
+    ensures command { IfOk result (λ m. command_of m ≡ QUERY_INFO) }
     ensures alone { IfOk result (λ m. IsAlone m) }
 {
     let mut out = start(alloc, place, QUERY_INFO)?;
@@ -231,11 +223,11 @@ pub fn query_message(alloc: Global, place: Place, fid: Fid) -> Result<Bytes, NoM
 /// # Errors
 ///
 /// Want of memory alone.
-pub fn close_message(alloc: Global, place: Place, fid: Fid) -> Result<Bytes, NoMemory>
-    ensures whole { IfOk result (λ m. m ≡ message_of place 6 (spelling 24 (close_fields fid) [])) }
-    ensures asked { IfOk result (λ m. asked m ≡ Some (wire.Share false (req.Close fid))) }
+pub fn close_message(alloc: Global, place: RequestPlace, fid: Fid) -> Result<Bytes, NoMemory>
+    ensures whole { IfOk result (λ m. m ≡ message_of place CLOSE (spelling 24 (close_fields fid) [])) }
+    ensures asked { IfOk result (λ m. wire_request m ≡ Some (WireRequest.Share false (req.Close fid))) }
     ensures mid { IfOk result (λ m. mid_of m ≡ place.mid) }
-    ensures command { IfOk result (λ m. command_of m ≡ 6) }
+    ensures command { IfOk result (λ m. command_of m ≡ CLOSE) }
     ensures alone { IfOk result (λ m. IsAlone m) }
 {
     let mut out = start(alloc, place, CLOSE)?;
@@ -250,13 +242,13 @@ pub fn close_message(alloc: Global, place: Place, fid: Fid) -> Result<Bytes, NoM
 /// Want of memory alone.
 pub fn plain_message(
     alloc: Global,
-    place: Place,
+    place: RequestPlace,
     command: u16,
     body: &[u8],
 ) -> Result<Bytes, NoMemory>
     requires { length body.now ≤ 1000000 }
     ensures whole { IfOk result (λ m. m ≡ message_of place command body.now) }
-    ensures aside { IfOk result (λ m. IsAsideBody command body.now → asked m ≡ Some wire.Aside) }
+    ensures aside { IfOk result (λ m. IsAsideBody command body.now → wire_request m ≡ Some WireRequest.Aside) }
     ensures mid { IfOk result (λ m. mid_of m ≡ place.mid) }
     ensures command { IfOk result (λ m. command_of m ≡ command) }
     ensures alone { IfOk result (λ m. IsAlone m) }

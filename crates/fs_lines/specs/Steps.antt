@@ -5,8 +5,8 @@ use Rattle.fs_lines.specs.declared.next.NextLine.{NextLine}
 use Rattle.fs_lines.specs.declared.next.NextLine.TheVariants.{Line, NotText, TooLong, End, Failed, NoMemory}
 use Rattle.fs_lines.specs.declared.lines.Fill.{Fill}
 use Rattle.fs_lines.specs.declared.lines.Fill.TheVariants as fill
-use Rattle.fs_lines.specs.declared.lines.Found.{Found}
-use Rattle.fs_lines.specs.declared.lines.Found.TheVariants as found
+use Rattle.fs_lines.specs.declared.lines.LineSearch.{LineSearch}
+use Rattle.fs_lines.specs.declared.lines.LineSearch.TheVariants as found
 use Rattle.fs_lines.specs.Line.{first_line, EndsAt}
 use Rattle.fs_lines.specs.Told.{Reading, Took, AtEnd, Needed}
 
@@ -18,7 +18,7 @@ is_fill_failed fill.Failed = true
 is_fill_failed fill.NoMemory = false
 
 -- the reads ended with one that failed
-abbrev pub is_found_failed : Found → Bool
+abbrev pub is_found_failed : LineSearch → Bool
 is_found_failed (found.Whole n) = false
 is_found_failed found.Last = false
 is_found_failed found.Long = false
@@ -44,7 +44,7 @@ abbrev pub IsOpen : List ℕ → Bool → Type 0
 IsOpen bytes ended = (length bytes ≤ MAX_LINE) × EndsAt bytes None × (ended ≡ false)
 
 -- how bytes begin, where the end was met or not
-abbrev pub Begins : Found → List ℕ → Bool → Type 0
+abbrev pub Begins : LineSearch → List ℕ → Bool → Type 0
 Begins (found.Whole n) bytes ended = (n ≤ MAX_LINE) × EndsAt bytes (Some n)
 Begins found.Last bytes ended = (length bytes ≤ MAX_LINE) × EndsAt bytes None × (ended ≡ true)
 Begins found.Long bytes ended = MAX_LINE < length (first_line bytes)
@@ -52,7 +52,7 @@ Begins found.Failed bytes ended = ⊥
 Begins found.NoMemory bytes ended = ⊥
 
 -- what the bytes held begin with after the reads of a call
-abbrev pub FoundBy : Found → List ℕ → Bool → Bool → Option (List ℕ) → Type 0
+abbrev pub FoundBy : LineSearch → List ℕ → Bool → Bool → Option (List ℕ) → Type 0
 FoundBy (found.Whole n) bytes was is after = (n ≤ MAX_LINE) × EndsAt bytes (Some n) × (is ≡ was)
 FoundBy found.Last bytes was is after =
     (length bytes ≤ MAX_LINE) × EndsAt bytes None × (is ≡ true) × ((was ≡ true) ⊎ AtEnd after)
@@ -61,7 +61,7 @@ FoundBy found.Failed bytes was is after = is ≡ was
 FoundBy found.NoMemory bytes was is after = is ≡ was
 
 -- the reads of a call
-pub record Looked (before after : Option (List ℕ)) (old new : Reading) (found : Found) (got : List ℕ) : Type 0 where
+pub record Looked (before after : Option (List ℕ)) (old new : Reading) (found : LineSearch) (got : List ℕ) : Type 0 where
   pub took : Took got before after
   pub held : new.held ≡ old.held ++ got
   pub number : new.number ≡ old.number

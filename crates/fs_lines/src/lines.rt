@@ -50,7 +50,7 @@ enum Fill {
 }
 
 // How the bytes held begin.
-enum Found {
+enum LineSearch {
     // A line of so many bytes, and its LF.
     Whole(usize),
     // No LF, and nothing more comes.
@@ -105,16 +105,16 @@ impl Lines {
         ensures number { self.new.number ≡ counted self.old.number (is_line result) }
     {
         match self.find(source) {
-            Found::Whole(n) => self.give_first(n),
-            Found::Last => self.give_last(),
-            Found::Long => self.refuse(),
-            Found::Failed => NextLine::Failed,
-            Found::NoMemory => NextLine::NoMemory,
+            LineSearch::Whole(n) => self.give_first(n),
+            LineSearch::Last => self.give_last(),
+            LineSearch::Long => self.refuse(),
+            LineSearch::Failed => NextLine::Failed,
+            LineSearch::NoMemory => NextLine::NoMemory,
         }
     }
 
     // Reads until the first line is held, or as much of it as tells that it is too long.
-    fn find<S: Source>(&mut self, source: &mut S) -> Found
+    fn find<S: Source>(&mut self, source: &mut S) -> LineSearch
         ensures found { (got : List ℕ) × Looked (S.left source.old) (S.left source.new) self.old self.new result got }
         ensures faults { S.faults source.new ≡ counted (S.faults source.old) (is_found_failed result) }
     {
@@ -127,31 +127,31 @@ impl Lines {
             seen = self.pending().len();
             match self.fill(source) {
                 Fill::More => {}
-                Fill::Ended => return Found::Last,
-                Fill::Failed => return Found::Failed,
-                Fill::NoMemory => return Found::NoMemory,
+                Fill::Ended => return LineSearch::Last,
+                Fill::Failed => return LineSearch::Failed,
+                Fill::NoMemory => return LineSearch::NoMemory,
             }
         }
     }
 
     // How the bytes held begin, where that is told without a read; in the first `seen` of them there is no LF.
-    fn look(&self, seen: usize) -> Option<Found>
+    fn look(&self, seen: usize) -> Option<LineSearch>
         requires { (seen ≤ length self.now.held) × (first_line (take seen self.now.held) ≡ take seen self.now.held) }
         ensures { MatchOption result (IsOpen self.now.held self.now.ended) (λ found. Begins found self.now.held self.now.ended) }
     {
         match end_from(self.pending(), seen) {
             Some(n) => {
                 if n > MAX_LINE {
-                    return Some(Found::Long);
+                    return Some(LineSearch::Long);
                 }
-                Some(Found::Whole(n))
+                Some(LineSearch::Whole(n))
             }
             None => {
                 if self.pending().len() > MAX_LINE {
-                    return Some(Found::Long);
+                    return Some(LineSearch::Long);
                 }
                 if self.ended {
-                    return Some(Found::Last);
+                    return Some(LineSearch::Last);
                 }
                 None
             }

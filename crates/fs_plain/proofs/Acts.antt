@@ -11,11 +11,12 @@ use Rattle.share_spec.specs.declared.request.Rep.{Rep}
 use Rattle.share_spec.specs.declared.share.Share.{Share}
 use Rattle.share_spec.specs.Built.{is_built}
 use Rattle.share_spec.specs.PlainShare.{plain_step}
+use Rattle.share_spec.specs.Reply.{map_fid}
 use Rattle.fs_plain.specs.World.{act_of, grant_in}
 use Rattle.fs_plain.specs.Honest.{MayAct}
 use Rattle.fs_plain.specs.Same.{same_reply}
 use Rattle.fs_plain.specs.Replay.{Run, Running, Replay, Owner, owner_of, new_pair, opened_number}
-use Rattle.fs_plain.specs.Differences.{carried, plain_act, judge_act, after_act, is_passed_over}
+use Rattle.fs_plain.specs.Differences.{plain_act, judge_act, after_act, is_passed_over, carried_fid}
 use Rattle.fs_plain.specs.View.{View, Sound, calm, waits, left, ran, IsOwned}
 use Rattle.fs_plain.specs.Tidy.{IsToBeClosed, AreTidy}
 use Rattle.fs_plain.specs.Related.{Related, bare, AreStanding, AreSame}
@@ -119,7 +120,7 @@ act_related run s r v who request reply old may =
     let W : Who = record { 0 = who } in
     let done : Rep × Share = act_of who request reply s in
     let same : plain_act r who request ≡ bare_of done =
-    ap (λ (p : Share). plain_step p W (carried r.pairs request)) old.tree
+    ap (λ (p : Share). plain_step p W (map_fid (carried_fid r.pairs) request)) old.tree
     ∙ act_same r.pairs (grant_in reply.body) s W request old.pairs old.standing may.built in
     let replied : (plain_act r who request).0 ≡ reply = ap (λ (d : Rep × Share). d.0) same ∙ may.answered in (
       judged run r who request reply (or_true (is_passed_over request) (same_reply (plain_act r who request).0 reply)

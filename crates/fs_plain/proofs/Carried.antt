@@ -10,13 +10,13 @@ use Rattle.share_spec.specs.declared.request.Req.{Req}
 use Rattle.share_spec.specs.declared.request.Req.TheVariants as req
 use Rattle.share_spec.specs.declared.share.Share.{Share}
 use Rattle.share_spec.specs.Built.{is_built}
-use Rattle.share_spec.specs.Reply.{fid_of}
+use Rattle.share_spec.specs.Reply.{fid_of, map_fid}
 use Rattle.share_spec.specs.Close.{open_of, is_open_of, close_open}
 use Rattle.share_spec.specs.Query.{query_open}
 use Rattle.share_spec.specs.Step.{step_of}
 use Rattle.share_spec.specs.PlainShare.{plain_step}
 use Rattle.fs_plain.specs.Replay.{plain_of}
-use Rattle.fs_plain.specs.Differences.{carried, carried_fid}
+use Rattle.fs_plain.specs.Differences.{carried_fid}
 use Rattle.fs_plain.specs.Related.{bare, IsStanding, AreStanding, AreSame}
 use Rattle.fs_plain.proofs.PlainTree.{bare_of, step_bare}
 use Rattle.fs_plain.proofs.Identity.{same_test}
@@ -73,7 +73,7 @@ open_of_carried pairs s who fid same numbered =
 -- another client's request on the plain share
 pub act_same : (pairs : List (ℕ × ℕ)) (choice : Option Grant) (s : Share) (who : Who) (r : Req)
     → AreSame pairs s.opens_made → AreStanding s → is_built r ≡ true
-    → plain_step (bare s) who (carried pairs r) ≡ bare_of (step_of choice s who r)
+    → plain_step (bare s) who (map_fid (carried_fid pairs) r) ≡ bare_of (step_of choice s who r)
 act_same pairs choice s who (req.Create path access share disposition options attributes lease durable) same numbered built =
     step_bare choice (Some (record { lease = 0; durable = false })) s who (req.Create path access share disposition options attributes lease durable) built
 act_same pairs choice s who (req.Close fid) same numbered built =

@@ -12,7 +12,7 @@ use Rattle.share_spec.specs.Cut.{all_closed, ends_with, is_broken, disconnected,
 use Rattle.smb_link.specs.declared.event.Event.TheVariants as event
 use Rattle.fs_plain.specs.World.{us}
 use Rattle.fs_plain.specs.Replay.{Run, Running, Replay, plain_of}
-use Rattle.fs_plain.specs.Differences.{next, with_number, closed_if, all_ended, ended_between}
+use Rattle.fs_plain.specs.Differences.{replay_step, with_number, closed_if, all_plain_ended, ended_between}
 use Rattle.fs_plain.specs.View.{Item, View, same_flying, ran, reply_of_flying, rest_after, opened_after}
 use Rattle.fs_plain.specs.Tidy.{IsToBeClosed}
 use Rattle.fs_plain.specs.Related.{Related, bare, IsStanding, IsAnother, AreApart, AreSame, IsOther, AreDistinct, IsNamed}
@@ -136,10 +136,10 @@ abbrev pub IsFound : List (ℕ × ℕ) → List Open → Open → Type 0
 IsFound pairs opens o = (plain_of pairs o.number ≡ o.number) × (with_number o.number opens ≡ Some o)
 
 ended_bare : (pairs : List (ℕ × ℕ)) (es : List Open) (s : Share) → AllByRecursion (IsFound pairs s.opens) es → AreApart es
-    → all_ended pairs es (bare s) ≡ bare (all_closed es s)
+    → all_plain_ended pairs es (bare s) ≡ bare (all_closed es s)
 ended_bare pairs [] s all apart = refl
 ended_bare pairs (e ∷ es) s all apart =
-    ap (λ (o : Option Open). all_ended pairs es (closed_if o (bare s))) (ap (λ (n : ℕ). with_number n s.opens) all.0.0 ∙ all.0.1)
+    ap (λ (o : Option Open). all_plain_ended pairs es (closed_if o (bare s))) (ap (λ (n : ℕ). with_number n s.opens) all.0.0 ∙ all.0.1)
     ∙ ended_bare pairs es (closed e s) (still es all.1 apart.0) apart.1
   where
     still : (qs : List Open) → AllByRecursion (IsFound pairs s.opens) qs → AllByRecursion (IsAnother e) qs → AllByRecursion (IsFound pairs (closed e s).opens) qs
@@ -201,9 +201,9 @@ all_ends s all apart =
 
 -- the plain share and the real one are still alike
 cut_tree : (s : Share) (pairs : List (ℕ × ℕ)) → AllByRecursion (IsStanding s.opens_made) s.opens → AreApart s.opens → AreSame pairs s.opens_made
-    → all_ended pairs (ended_between s.opens (after_cut s).opens) (bare s) ≡ bare (after_cut s)
+    → all_plain_ended pairs (ended_between s.opens (after_cut s).opens) (bare s) ≡ bare (after_cut s)
 cut_tree s pairs all apart same =
-    ap (λ (l : List Open). all_ended pairs l (bare s)) (all_ends s all apart)
+    ap (λ (l : List Open). all_plain_ended pairs l (bare s)) (all_ends s all apart)
     ∙ ended_bare pairs (filter (ends s) s.opens) s
     (every-filter (IsFound pairs s.opens) (ends s) s.opens
     (every-both (λ o. plain_of pairs o.number ≡ o.number) (λ o. with_number o.number s.opens ≡ Some o) s.opens
@@ -247,9 +247,9 @@ all_named coming (i ∷ is) = (refl, all_named coming is)
 
 -- the connection is lost: the calls stay where the plain client is with them
 pub cut_related : (run : Run) (s : Share) (r : Replay) (v : View) (old : Related s r v)
-    → Related (after_cut s) (next run s r event.Cut) (parted (old.paid ++ s.owed) v)
+    → Related (after_cut s) (replay_step run s r event.Cut) (parted (old.paid ++ s.owed) v)
 cut_related run s r v old = record {
-  tree = ap (λ (p : Share). all_ended r.pairs (ended_between s.opens (after_cut s).opens) p) old.tree ∙ cut_tree s r.pairs old.standing.0 old.standing.1 old.pairs;
+  tree = ap (λ (p : Share). all_plain_ended r.pairs (ended_between s.opens (after_cut s).opens) p) old.tree ∙ cut_tree s r.pairs old.standing.0 old.standing.1 old.pairs;
   leases = no_leases (filter (ends s) s.opens) s old.leases;
   standing = subst (λ (l : List Open). AllByRecursion (IsStanding (after_cut s).opens_made) l × AreApart l) (sym (opens_after s old.standing.0 old.standing.1)) (
     subst (λ (n : ℕ). AllByRecursion (IsStanding n) (filter (stays s) s.opens)) (sym (made_still (filter (ends s) s.opens) s))

@@ -16,7 +16,7 @@ use Rattle.smb_link.specs.declared.event.Event.{Event}
 use Rattle.smb_link.specs.Program.{Program, Say}
 use Rattle.fs_plain.specs.Replay.{Run, Running, Replay, running_with, running_but, at_first}
 use Rattle.fs_plain.specs.Answered.{Difference, finished, compared, is_not_compared, judge_answer_of, after_answer_of, judge_answer, after_answer, without_call}
-use Rattle.fs_plain.specs.Differences.{without_flight as without_owners}
+use Rattle.fs_plain.specs.Differences.{without_owners}
 use Rattle.fs_plain.specs.View.{Item, Flight, View, same_flying, item_with, Sound, waits, ran, reply_of_flying, rest_after, IsOwned, IsItems, Belongs, BelongsTo, items_but, without_item, no_view}
 use Rattle.fs_plain.specs.Tidy.{AreTidy}
 use Rattle.fs_plain.specs.Related.{Related, Settles, IsOther, AreDistinct, IsNamed}

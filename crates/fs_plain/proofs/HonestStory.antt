@@ -20,7 +20,7 @@ use Rattle.smb_chain.specs.Parts.{step_of, parts_of}
 use Rattle.smb_body_b.specs.Contexts.{read_of, contexts_of, set_of}
 use Rattle.smb_names.specs.Path as path
 use Rattle.smb_names.specs.WireName.{fault_of, spelling}
-use Rattle.fs_plain.specs.Requests.{asked}
+use Rattle.fs_plain.specs.Requests.{wire_request}
 use Rattle.fs_plain.specs.Replies.{reply_in, is_interim_of}
 use Rattle.fs_plain.specs.Honest.{IsHonest}
 use Rattle.fs_plain.specs.Replay.{Run}
@@ -88,7 +88,7 @@ run = record { options = options; seed = []; status = 0 }
 
 -- it is the plain client's
 no_difference : difference run 1000 false story ≡ None
-unfolding components asked reply_in is_interim_of head_of head_at number_at first_of frames_in rest_in step_of parts_of read_of contexts_of set_of path.components path.after_part fault_of spelling
+unfolding components wire_request reply_in is_interim_of head_of head_at number_at first_of frames_in rest_in step_of parts_of read_of contexts_of set_of path.components path.after_part fault_of spelling
 no_difference = refl
 
 -- with another answer it is not: the seventeenth event differs
@@ -103,46 +103,46 @@ a_wrong_answer : difference run 1000 false (with_answer 2)
         found = answer.Stat (record { kind = kind.Dir; size = 0; mode = 493; links = 2; number = 1 });
       },
     )
-unfolding components asked reply_in is_interim_of head_of head_at number_at first_of frames_in rest_in step_of parts_of read_of contexts_of set_of path.components path.after_part fault_of spelling
+unfolding components wire_request reply_in is_interim_of head_of head_at number_at first_of frames_in rest_in step_of parts_of read_of contexts_of set_of path.components path.after_part fault_of spelling
 a_wrong_answer = refl
 
 -- an answer before the second request of the three is taken
 an_early_answer : difference run 1000 false (take 13 story ++ event.Marked (mark.Answer 1 answer.Done) ∷ []) ≡ Some (14, odd)
-unfolding components asked reply_in is_interim_of head_of head_at number_at first_of frames_in rest_in step_of parts_of read_of contexts_of set_of path.components path.after_part fault_of spelling
+unfolding components wire_request reply_in is_interim_of head_of head_at number_at first_of frames_in rest_in step_of parts_of read_of contexts_of set_of path.components path.after_part fault_of spelling
 an_early_answer = refl
 
 -- a second answer
 a_second_answer : difference run 1000 false (take 17 story ++ event.Marked (mark.Answer 1 answer.Done) ∷ []) ≡ Some (18, odd)
-unfolding components asked reply_in is_interim_of head_of head_at number_at first_of frames_in rest_in step_of parts_of read_of contexts_of set_of path.components path.after_part fault_of spelling
+unfolding components wire_request reply_in is_interim_of head_of head_at number_at first_of frames_in rest_in step_of parts_of read_of contexts_of set_of path.components path.after_part fault_of spelling
 a_second_answer = refl
 
 -- a frame that does not hold the two requests that the mark before it names
 a_short_frame : difference run 1000 false (take 12 story ++ event.Sent create_frame ∷ []) ≡ Some (13, odd)
-unfolding components asked reply_in is_interim_of head_of head_at number_at first_of frames_in rest_in step_of parts_of read_of contexts_of set_of path.components path.after_part fault_of spelling
+unfolding components wire_request reply_in is_interim_of head_of head_at number_at first_of frames_in rest_in step_of parts_of read_of contexts_of set_of path.components path.after_part fault_of spelling
 a_short_frame = refl
 
 -- it leaves the share as the plain client does, and nobody waits for it
 it_ends_clean : EndsClean run 1000 false story
-unfolding components asked reply_in is_interim_of head_of head_at number_at first_of frames_in rest_in step_of parts_of read_of contexts_of set_of path.components path.after_part fault_of spelling
+unfolding components wire_request reply_in is_interim_of head_of head_at number_at first_of frames_in rest_in step_of parts_of read_of contexts_of set_of path.components path.after_part fault_of spelling
 it_ends_clean = λ left. record { nodes = refl; entries = refl; opens = refl }
 
 -- as long as its CLOSE is not taken it does not
 it_is_not_clean_before : EndsClean run 1000 false (take 13 story) → ⊥
-unfolding components asked reply_in is_interim_of head_of head_at number_at first_of frames_in rest_in step_of parts_of read_of contexts_of set_of path.components path.after_part fault_of spelling
+unfolding components wire_request reply_in is_interim_of head_of head_at number_at first_of frames_in rest_in step_of parts_of read_of contexts_of set_of path.components path.after_part fault_of spelling
 it_is_not_clean_before clean = false≢true (clean refl).opens
 
 -- its first request is one frame, since one id may be used there
 it_is_thrifty : IsThrifty run 1000 false (take 6 story)
-unfolding components asked reply_in is_interim_of head_of head_at number_at first_of frames_in rest_in step_of parts_of read_of contexts_of set_of path.components path.after_part fault_of spelling
+unfolding components wire_request reply_in is_interim_of head_of head_at number_at first_of frames_in rest_in step_of parts_of read_of contexts_of set_of path.components path.after_part fault_of spelling
 it_is_thrifty = (refl, (refl, (refl, (refl, (refl, (refl, nothing))))))
 
 it_is_prompt : IsPrompt run 1000 false (take 8 story)
-unfolding components asked reply_in is_interim_of head_of head_at number_at first_of frames_in rest_in step_of parts_of read_of contexts_of set_of path.components path.after_part fault_of spelling
+unfolding components wire_request reply_in is_interim_of head_of head_at number_at first_of frames_in rest_in step_of parts_of read_of contexts_of set_of path.components path.after_part fault_of spelling
 it_is_prompt = (λ m. refl, (λ m. refl, (λ m. refl, (λ m. refl, (λ m. refl, (λ m. refl, (λ m. refl, (λ m. refl, nothing))))))))
 
 -- and an honest share tells it
 it_is_honest : IsHonest 1000 false story
-unfolding components asked reply_in is_interim_of head_of head_at number_at first_of frames_in rest_in step_of parts_of read_of contexts_of set_of path.components path.after_part fault_of spelling
+unfolding components wire_request reply_in is_interim_of head_of head_at number_at first_of frames_in rest_in step_of parts_of read_of contexts_of set_of path.components path.after_part fault_of spelling
 it_is_honest = (
   nothing,
   (

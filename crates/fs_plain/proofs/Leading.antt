@@ -10,14 +10,14 @@ use Rattle.smb_head.specs.Stream.{frames_in, rest_in}
 use Rattle.smb_link.specs.declared.event.Event.{Event}
 use Rattle.smb_link.specs.declared.event.Event.TheVariants as event
 use Rattle.smb_link.specs.declared.mark.Mark.TheVariants as mark
-use Rattle.smb_link.specs.Story.{told, Gains}
+use Rattle.smb_link.specs.Story.{story_with, Gains}
 use Rattle.smb_link.specs.Program.{Say}
 use Rattle.smb_link.specs.Calls.{program_of}
-use Rattle.smb_link.proofs.CameLaws.{told-told}
+use Rattle.smb_link.proofs.CameLaws.{story_with-twice}
 use Rattle.fs_plain.specs.World.{happens, messages_in, messages_got}
 use Rattle.fs_plain.specs.Honest.{MayHappen}
 use Rattle.fs_plain.specs.Replay.{Replay, Announced, facts_after}
-use Rattle.fs_plain.specs.Differences.{next, judge}
+use Rattle.fs_plain.specs.Differences.{replay_step, judge}
 use Rattle.fs_plain.specs.View.{Item, Flight, View, item_with, new_item, with_item, with_announced, with_flight, with_bytes, without_item}
 use Rattle.fs_plain.specs.Related.{Related}
 use Rattle.fs_plain.specs.Moves.{Holds, run_of, Leads}
@@ -53,7 +53,7 @@ pub leads_shares : (options : Options) (seed : List ℕ) (v : View) (old new : O
 leads_shares options seed v old new gains = record {
   on = λ begin going. record {
     came = going.came ++ (gains.0 ++ []);
-    story = gains.2 ∙ ap (λ (l : Option (List Event)). told l (gains.0 ++ [])) going.story ∙ told-told begin going.came (gains.0 ++ []);
+    story = gains.2 ∙ ap (λ (l : Option (List Event)). story_with l (gains.0 ++ [])) going.story ∙ story_with-twice begin going.came (gains.0 ++ []);
     holds = λ status room fold.
         subst (λ (l : List Event). Holds (run_of options seed status) room fold (λ s r. Related s r v) (going.came ++ l)) (sym (append-nil gains.0))
         (shares_grow (run_of options seed status) room fold v going.came gains.0 gains.1 (going.holds status room fold));
@@ -63,12 +63,12 @@ leads_shares options seed v old new gains = record {
 -- a call of the link that adds one event of the client, which keeps what is related
 pub leads_event : (options : Options) (seed : List ℕ) (v w : View) (e : Event) (old new : Option (List Event)) → Gains (e ∷ []) old new
     → ((status : ℕ) (s : Share) (r : Replay) → Related s r v → MayHappen s e
-    → (judge (run_of options seed status) s r e ≡ None) × Related (happens s e) (next (run_of options seed status) s r e) w)
+    → (judge (run_of options seed status) s r e ≡ None) × Related (happens s e) (replay_step (run_of options seed status) s r e) w)
     → Leads options seed v w old new
 leads_event options seed v w e old new gains step = record {
   on = λ begin going. record {
     came = going.came ++ (gains.0 ++ e ∷ []);
-    story = gains.2 ∙ ap (λ (l : Option (List Event)). told l (gains.0 ++ e ∷ [])) going.story ∙ told-told begin going.came (gains.0 ++ e ∷ []);
+    story = gains.2 ∙ ap (λ (l : Option (List Event)). story_with l (gains.0 ++ e ∷ [])) going.story ∙ story_with-twice begin going.came (gains.0 ++ e ∷ []);
     holds = λ status room fold.
         subst (λ (l : List Event). Holds (run_of options seed status) room fold (λ s r. Related s r w) l) (append_assoc going.came gains.0 (e ∷ []))
         (client_grows (run_of options seed status) room fold (λ s r. Related s r v) (λ s r. Related s r w) (going.came ++ gains.0) e

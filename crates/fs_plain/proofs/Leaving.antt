@@ -10,9 +10,9 @@ use Rattle.share_spec.specs.declared.connection.Owed.{Owed}
 use Rattle.smb_link.specs.declared.event.Event.{Event}
 use Rattle.smb_link.specs.declared.event.Event.TheVariants as event
 use Rattle.smb_link.specs.declared.mark.Mark.TheVariants as mark
-use Rattle.smb_link.specs.Story.{told, Gains}
+use Rattle.smb_link.specs.Story.{story_with, Gains}
 use Rattle.smb_link.specs.Program.{of_errno}
-use Rattle.smb_link.proofs.CameLaws.{told-told}
+use Rattle.smb_link.proofs.CameLaws.{story_with-twice}
 use Rattle.fs_plain.specs.Honest.{MayHappen, IsHonest, start}
 use Rattle.fs_plain.specs.CleanEnd.{share_after, replay_after}
 use Rattle.fs_plain.specs.Ahead.{ahead}
@@ -55,7 +55,7 @@ pub leaves_impossible : (options : Options) (seed : List ℕ) (v : View) (e : Ev
 leaves_impossible options seed v e old new gains never = record {
   on = λ begin going. record {
     came = going.came ++ (gains.0 ++ e ∷ []);
-    story = gains.2 ∙ ap (λ (l : Option (List Event)). told l (gains.0 ++ e ∷ [])) going.story ∙ told-told begin going.came (gains.0 ++ e ∷ []);
+    story = gains.2 ∙ ap (λ (l : Option (List Event)). story_with l (gains.0 ++ e ∷ [])) going.story ∙ story_with-twice begin going.came (gains.0 ++ e ∷ []);
     holds = λ status room fold.
         subst (λ (l : List Event). Holds (run_of options seed status) room fold (RemainsUnless true (numbers_of v)) l) (append_assoc going.came gains.0 (e ∷ []))
         (client_grows (run_of options seed status) room fold (λ s r. Related s r v) (RemainsUnless true (numbers_of v)) (going.came ++ gains.0) e
@@ -92,7 +92,7 @@ pub leaves_shares : (options : Options) (seed : List ℕ) (v : View) (old new : 
 leaves_shares options seed v old new gains = record {
   on = λ begin going. record {
     came = going.came ++ (gains.0 ++ []);
-    story = gains.2 ∙ ap (λ (l : Option (List Event)). told l (gains.0 ++ [])) going.story ∙ told-told begin going.came (gains.0 ++ []);
+    story = gains.2 ∙ ap (λ (l : Option (List Event)). story_with l (gains.0 ++ [])) going.story ∙ story_with-twice begin going.came (gains.0 ++ []);
     holds = λ status room fold.
         subst (λ (l : List Event). Holds (run_of options seed status) room fold (Remains (numbers_of v)) (going.came ++ l)) (sym (append-nil gains.0))
         (seen_otherwise (run_of options seed status) room fold (λ s r. Related s r v) (Remains (numbers_of v)) (going.came ++ gains.0)
@@ -110,7 +110,7 @@ pub leaves_cut : (options : Options) (seed : List ℕ) (v : View) (old new : Opt
 leaves_cut options seed v old new gains = record {
   on = λ begin going. record {
     came = going.came ++ (gains.0 ++ event.Cut ∷ []);
-    story = gains.2 ∙ ap (λ (l : Option (List Event)). told l (gains.0 ++ event.Cut ∷ [])) going.story ∙ told-told begin going.came (gains.0 ++ event.Cut ∷ []);
+    story = gains.2 ∙ ap (λ (l : Option (List Event)). story_with l (gains.0 ++ event.Cut ∷ [])) going.story ∙ story_with-twice begin going.came (gains.0 ++ event.Cut ∷ []);
     holds = λ status room fold.
         subst (λ (l : List Event). Holds (run_of options seed status) room fold (Remains (numbers_of v)) l) (append_assoc going.came gains.0 (event.Cut ∷ []))
         (client_grows (run_of options seed status) room fold (λ s r. Related s r v) (Remains (numbers_of v)) (going.came ++ gains.0) event.Cut
@@ -122,9 +122,9 @@ leaves_cut options seed v old new gains = record {
 -- two events of the client, one after the other
 pub gains_two : (e f : Event) (old new : Option (List Event)) → Gains (e ∷ f ∷ []) old new → (mid : Option (List Event)) × Gains (e ∷ []) old mid × Gains (f ∷ []) mid new
 gains_two e f old new gains = (
-  told old (gains.0 ++ e ∷ []),
+  story_with old (gains.0 ++ e ∷ []),
   (gains.0, gains.1, refl),
-  ([], refl, gains.2 ∙ ap (told old) (sym (append_assoc gains.0 (e ∷ []) (f ∷ []))) ∙ sym (told-told old (gains.0 ++ e ∷ []) (f ∷ []))),
+  ([], refl, gains.2 ∙ ap (story_with old) (sym (append_assoc gains.0 (e ∷ []) (f ∷ []))) ∙ sym (story_with-twice old (gains.0 ++ e ∷ []) (f ∷ []))),
 )
 
 -- what holds of every share holds at the end; where what came is foul anything does
@@ -151,7 +151,7 @@ closes_foul : (options : Options) (seed : List ℕ) (numbers : List ℕ) (ends :
 closes_foul options seed numbers ends P own old new gains = record {
   on = λ begin gone. record {
     came = gone.came ++ (gains.0 ++ own);
-    story = gains.2 ∙ ap (λ (l : Option (List Event)). told l (gains.0 ++ own)) gone.story ∙ told-told begin gone.came (gains.0 ++ own);
+    story = gains.2 ∙ ap (λ (l : Option (List Event)). story_with l (gains.0 ++ own)) gone.story ∙ story_with-twice begin gone.came (gains.0 ++ own);
     holds = λ status room fold may.
         grows (run_of options seed status) room fold (RemainsUnless true numbers) P gone.came (gains.0 ++ own) (gone.holds status room fold)
         (λ s r never honest. absurd never);
@@ -192,8 +192,8 @@ closes_answer options seed numbers true ends P n a old new gains has none plain 
 closes_answer options seed numbers false ends P n a old new gains has none plain = record {
   on = λ begin gone. record {
     came = gone.came ++ (gains.0 ++ event.Marked (mark.Answer n a) ∷ []);
-    story = gains.2 ∙ ap (λ (l : Option (List Event)). told l (gains.0 ++ event.Marked (mark.Answer n a) ∷ [])) gone.story
-        ∙ told-told begin gone.came (gains.0 ++ event.Marked (mark.Answer n a) ∷ []);
+    story = gains.2 ∙ ap (λ (l : Option (List Event)). story_with l (gains.0 ++ event.Marked (mark.Answer n a) ∷ [])) gone.story
+        ∙ story_with-twice begin gone.came (gains.0 ++ event.Marked (mark.Answer n a) ∷ []);
     holds = λ status room fold may.
         subst (λ (l : List Event). Holds (run_of options seed status) room fold P l) (append_assoc gone.came gains.0 (event.Marked (mark.Answer n a) ∷ []))
         (client_grows (run_of options seed status) room fold (Remains numbers) P (gone.came ++ gains.0) (event.Marked (mark.Answer n a))
@@ -240,7 +240,7 @@ going_start options seed begin = record {
   holds = λ status room fold. record { on = λ grants to_begin honest. (record {}, begins room fold grants to_begin) };
 }
   where
-    nothing : (begin : Option (List Event)) → begin ≡ told begin []
+    nothing : (begin : Option (List Event)) → begin ≡ story_with begin []
     nothing None = refl
     nothing (Some events) = ap (λ (l : List Event). Some l) (sym (append-nil events))
 
@@ -316,7 +316,7 @@ closes_shares options seed numbers true ends P old new gains plain = closes_foul
 closes_shares options seed numbers false ends P old new gains plain = record {
   on = λ begin gone. record {
     came = gone.came ++ (gains.0 ++ []);
-    story = gains.2 ∙ ap (λ (l : Option (List Event)). told l (gains.0 ++ [])) gone.story ∙ told-told begin gone.came (gains.0 ++ []);
+    story = gains.2 ∙ ap (λ (l : Option (List Event)). story_with l (gains.0 ++ [])) gone.story ∙ story_with-twice begin gone.came (gains.0 ++ []);
     holds = λ status room fold may.
         subst (λ (l : List Event). Holds (run_of options seed status) room fold P (gone.came ++ l)) (sym (append-nil gains.0))
         (grows (run_of options seed status) room fold (Remains numbers) P gone.came gains.0 (gone.holds status room fold)

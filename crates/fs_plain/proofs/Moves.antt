@@ -10,7 +10,7 @@ use Rattle.fs_plain.specs.Honest.{MayHappen, HonestFrom, IsHonest}
 use Rattle.fs_plain.specs.Ahead.{ahead}
 use Rattle.fs_plain.specs.Replay.{Run, Replay, begins_in}
 use Rattle.fs_plain.specs.Answered.{Difference}
-use Rattle.fs_plain.specs.Differences.{next, judge, first_of_two, difference_from, difference}
+use Rattle.fs_plain.specs.Differences.{replay_step, judge, first_of_two, difference_from, difference}
 use Rattle.fs_plain.specs.CleanEnd.{share_after, replay_after}
 use Rattle.fs_plain.specs.View.{View}
 use Rattle.fs_plain.specs.Related.{Related}
@@ -33,7 +33,7 @@ grown : (run : Run) (P Q : Share → Replay → Type 0) (s : Share) (r : Replay)
 unfolding Grown
 grown run P Q s r [] ys first then = then first.1
 grown run P Q s r (x ∷ xs) ys first then =
-    let later : Grown run Q (happens s x) (next run s r x) (xs ++ ys) = grown run P Q (happens s x) (next run s r x) xs ys (first.0.1, first.1) then in
+    let later : Grown run Q (happens s x) (replay_step run s r x) (xs ++ ys) = grown run P Q (happens s x) (replay_step run s r x) xs ys (first.0.1, first.1) then in
     ((first.0.0, later.0), later.1)
 
 -- a story grows by events that keep what it has to keep
@@ -58,9 +58,9 @@ pub shares : (run : Run) (v : View) (s : Share) (r : Replay) (events : List Even
 shares run v s r [] own old honest = (record {}, old)
 shares run v s r (e ∷ events) own old honest =
     let is : (is_of_share e ≡ true) × (list_all is_of_share events ≡ true) = both_true (is_of_share e) (list_all is_of_share events) own in
-    let now : (judge run s r e ≡ None) × Related (happens s e) (next run s r e) v = share_related run s r v e is.0 old honest.0 in
-    let later : NoDifference run (happens s e) (next run s r e) events × Related (share_after (happens s e) events) (replay_after run (happens s e) (next run s r e) events) v =
-    shares run v (happens s e) (next run s r e) events is.1 now.1 honest.1 in
+    let now : (judge run s r e ≡ None) × Related (happens s e) (replay_step run s r e) v = share_related run s r v e is.0 old honest.0 in
+    let later : NoDifference run (happens s e) (replay_step run s r e) events × Related (share_after (happens s e) events) (replay_after run (happens s e) (replay_step run s r e) events) v =
+    shares run v (happens s e) (replay_step run s r e) events is.1 now.1 honest.1 in
     ((now.0, later.0), later.1)
 
 -- the share's own events keep what is related
@@ -72,10 +72,10 @@ shares_grow run room fold v came events own holds =
 -- an event of the client that makes no difference and leads to this
 pub client_grows : (run : Run) (room : ℕ) (fold : Bool) (P Q : Share → Replay → Type 0) (came : List Event) (e : Event)
     → Holds run room fold P came
-    → ((s : Share) (r : Replay) → P s r → MayHappen s e → (judge run s r e ≡ None) × Q (happens s e) (next run s r e))
+    → ((s : Share) (r : Replay) → P s r → MayHappen s e → (judge run s r e ≡ None) × Q (happens s e) (replay_step run s r e))
     → Holds run room fold Q (came ++ e ∷ [])
 client_grows run room fold P Q came e holds step =
-    grows run room fold P Q came (e ∷ []) holds (λ s r p honest. let done : (judge run s r e ≡ None) × Q (happens s e) (next run s r e) = step s r p honest.0 in ((done.0, record {}), done.1))
+    grows run room fold P Q came (e ∷ []) holds (λ s r p honest. let done : (judge run s r e ≡ None) × Q (happens s e) (replay_step run s r e) = step s r p honest.0 in ((done.0, record {}), done.1))
 
 -- where nothing happens a view may be seen otherwise
 pub seen_otherwise : (run : Run) (room : ℕ) (fold : Bool) (P Q : Share → Replay → Type 0) (came : List Event) → Holds run room fold P came
@@ -88,8 +88,8 @@ seen_otherwise run room fold P Q came holds step = record {
 none_first : (run : Run) (n : ℕ) (s : Share) (r : Replay) (events : List Event) → NoDifference run s r events → difference_from run n s r events ≡ None
 none_first run n s r [] none = refl
 none_first run n s r (e ∷ events) none =
-    ap (λ (d : Option Difference). first_of_two n d (difference_from run (n + 1) (happens s e) (next run s r e) events)) none.0
-    ∙ none_first run (n + 1) (happens s e) (next run s r e) events none.1
+    ap (λ (d : Option Difference). first_of_two n d (difference_from run (n + 1) (happens s e) (replay_step run s r e) events)) none.0
+    ∙ none_first run (n + 1) (happens s e) (replay_step run s r e) events none.1
 
 -- so an honest story has no difference
 pub honest_holds : (run : Run) (room : ℕ) (fold : Bool) (P : Share → Replay → Type 0) (story : List Event) → Holds run room fold P story

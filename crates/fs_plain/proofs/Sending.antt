@@ -1,5 +1,5 @@
 -- A request is sent: it is in flight from then on.
-use Rattle.std.proofs.Common.{rules, ◌≡◌, ℕ, true, false, [], ◌∷◌, ◌++◌, ◌+◌, ◌≤◌, refl, ap, sym, subst, ◌∙◌, inl, inr, None, Some, List, Option, Bool, ◌==◌, not, if◌then◌else◌}
+use Rattle.std.proofs.Common.{rules, ◌≡◌, ℕ, true, false, [], ◌∷◌, ◌++◌, ◌+◌, ◌≤◌, refl, ap, sym, subst, ◌∙◌, inl, inr, None, Some, List, Option, Bool, ◌==◌, not, if◌then◌else◌, get_or}
 use Rattle.std.specs.Prelude.{zero, suc, map, option_map, is_none, nat_le, length, take, Result, Ok}
 use Rattle.std.specs.List.{AllByRecursion}
 use Rattle.std.proofs.lemmas.Bool.{false≢true}
@@ -17,16 +17,16 @@ use Rattle.share_spec.specs.declared.request.Req.{Req}
 use Rattle.share_spec.specs.declared.request.Req.TheVariants as req
 use Rattle.share_spec.specs.Reply.{fid_of}
 use Rattle.smb_link.specs.Program.{File, Own, Named, Wish, Open as Opening, Query, Close, Program, Ask, Look, Say, Known}
-use Rattle.fs_plain.specs.Taken.{nth, plain_file, plain_wish}
+use Rattle.fs_plain.specs.Taken.{plain_file, plain_fid, wish_of}
 use Rattle.share_spec.specs.declared.connection.LastCreate.TheVariants as last
-use Rattle.fs_plain.specs.Requests.{Asked, asked}
+use Rattle.fs_plain.specs.Requests.{WireRequest, wire_request}
 use Rattle.fs_plain.specs.World.{mid_of, messages_of, requests_among, first_mid, requests_in, after_sent}
 use Rattle.fs_plain.specs.Replay.{Running, Announced, Owner, Replay, owner_of}
 use Rattle.fs_plain.specs.Answered.{odd_unless}
 use Rattle.fs_plain.specs.Differences.{mids_among, mids_in, from, is_right_sending, owned, after_sending}
 use Rattle.fs_plain.specs.View.{Item, Flight, View, same_flying, item_with, flight_with, flights_but, left, IsFor, IsOf, Sound, calm, waits, reply_for, reply_of_flying, rest_after, opened_after, ran, is_owned_by, IsOwned, IsNext, IsItems, Belongs, BelongsTo, is_number, fly, with_flight}
 use Rattle.fs_plain.specs.Related.{Related, IsOther, AreDistinct, IsNamed, IsFresh}
-use Rattle.fs_plain.specs.Sends.{nth_fid, fid_of_file, wish_of, IsWish, MayFlyFor, MayFly, IsIdle, IsAnnounced, MaySend}
+use Rattle.fs_plain.specs.Sends.{fid_of_file, IsWish, MayFlyFor, MayFly, IsIdle, IsAnnounced, MaySend}
 use Rattle.fs_plain.proofs.Every.{every-snoc, every-more}
 use Rattle.fs_plain.proofs.Lookups.{but_still_none}
 use Rattle.fs_plain.proofs.Tooks.{item_holds}
@@ -113,10 +113,10 @@ FliesFor None f = ⊥
 FliesFor (Some i) f = IsNext i.rest i.opened f.message
 
 abbrev Flies : Option ℕ → List Item → Flight → Type 0
-Flies None items f = asked f.message ≡ Some Asked.Aside
+Flies None items f = wire_request f.message ≡ Some WireRequest.Aside
 Flies (Some n) items f = FliesFor (item_with n items) f
 
-nth_named : (n : ℕ) (opened : List ℕ) → nth_fid n (map fid_of opened) ≡ fid_of (nth n opened)
+nth_named : (n : ℕ) (opened : List ℕ) → get_or (map fid_of opened) n (fid_of 0) ≡ fid_of (get_or opened n 0)
 nth_named zero [] = refl
 nth_named (suc n) [] = refl
 nth_named zero (x ∷ xs) = refl
@@ -126,14 +126,14 @@ file_named : (opened : List ℕ) (file : File) → fid_of_file (map fid_of opene
 file_named opened (Own n) = nth_named n opened
 file_named opened Named = refl
 
-wish_named : (opened : List ℕ) (wish : Wish) → wish_of (map fid_of opened) wish ≡ plain_wish opened wish
+wish_named : (opened : List ℕ) (wish : Wish) → wish_of (fid_of_file (map fid_of opened)) wish ≡ wish_of (plain_fid opened) wish
 wish_named opened (Opening path access disposition options) = refl
 wish_named opened (Query file) = ap (λ (fid : Fid). req.Query fid) (file_named opened file)
 wish_named opened (Close file) = ap (λ (fid : Fid). req.Close fid) (file_named opened file)
 
 next_named : (rest : Program) (fids : List Fid) (opened : List ℕ) (message : List ℕ) → fids ≡ map fid_of opened → IsWish rest fids message → IsNext rest opened message
 next_named (Ask wish rest) fids opened message named is =
-    is ∙ ap (λ (l : List Fid). Some (Asked.Share false (wish_of l wish))) named ∙ ap (λ (q : Req). Some (Asked.Share false q)) (wish_named opened wish)
+    is ∙ ap (λ (l : List Fid). Some (WireRequest.Share false (wish_of (fid_of_file l) wish))) named ∙ ap (λ (q : Req). Some (WireRequest.Share false q)) (wish_named opened wish)
 next_named (Look rest) fids opened message named is = is
 next_named (Say answer) fids opened message named is = is
 
@@ -321,7 +321,7 @@ map_calm_snoc : (xs : List Sent) (x : Sent) → map calm (xs ++ x ∷ []) ≡ ma
 map_calm_snoc [] x = refl
 map_calm_snoc (y ∷ ys) x = ap (λ (l : List Sent). calm y ∷ l) (map_calm_snoc ys x)
 
-requests_is : (f : Flight) (frame : List ℕ) → messages_of (first_of frame) ≡ Ok f.message ∷ [] → mid_of f.message ≡ f.mid → is_none (asked f.message) ≡ false
+requests_is : (f : Flight) (frame : List ℕ) → messages_of (first_of frame) ≡ Ok f.message ∷ [] → mid_of f.message ≡ f.mid → is_none (wire_request f.message) ≡ false
     → requests_in frame ≡ waits f ∷ []
 requests_is f frame alone mid known =
     ap (λ (l : List (Result (List ℕ) BadNext)). requests_among (first_mid l) l) alone

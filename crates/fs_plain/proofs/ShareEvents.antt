@@ -18,13 +18,13 @@ use Rattle.smb_link.specs.declared.event.Event.{Event}
 use Rattle.smb_link.specs.declared.event.Event.TheVariants as event
 use Rattle.smb_link.specs.Story.{is_of_share}
 use Rattle.smb_link.specs.Program.{Program, Ask, Look, Say}
-use Rattle.fs_plain.specs.Requests.{Asked, asked}
+use Rattle.fs_plain.specs.Requests.{WireRequest, wire_request}
 use Rattle.fs_plain.specs.World.{sent_with, after_taking, after_took, after_took_of, after_pend_of, breakable, put_off, happens}
 use Rattle.fs_plain.specs.Honest.{MayTake, MayPend, MayBreak, MayHappen}
 use Rattle.fs_plain.specs.Replay.{Run, Owner, Replay, owner_of}
 use Rattle.fs_plain.specs.Taken.{after_taken, is_right_taken, after_sent_taken, is_right_sent, after_asked, is_right_asked}
 use Rattle.fs_plain.specs.Answered.{odd_unless}
-use Rattle.fs_plain.specs.Differences.{next, judge, all_ended, ended_between, after_ends}
+use Rattle.fs_plain.specs.Differences.{replay_step, judge, all_plain_ended, ended_between, after_ends}
 use Rattle.fs_plain.specs.View.{Item, Flight, View, item_with, flight_with, left, is_owned_by, IsOwned, calm, waits, IsNext, IsItems, Belongs, BelongsTo}
 use Rattle.fs_plain.specs.Related.{Related, IsStanding}
 use Rattle.fs_plain.proofs.Acts.{act_related}
@@ -34,7 +34,7 @@ use Rattle.fs_plain.proofs.Tooks.{waiting_as, aside_taken, pend_related, owned_t
 -- what a request in flight asks for, once it is taken
 Taken : Share → Replay → View → Sent → Type 0
 Taken s r v x =
-    (odd_unless (is_right_asked s r x (asked x.message)) ≡ None) × Related (after_taking (asked x.message) x s) (after_asked s r x (asked x.message)) v
+    (odd_unless (is_right_asked s r x (wire_request x.message)) ≡ None) × Related (after_taking (wire_request x.message) x s) (after_asked s r x (wire_request x.message)) v
 
 abbrev the_owner : (number : ℕ) (o : Option Owner) → is_owned_by (Some number) o → Owner
 the_owner number None is = absurd is
@@ -54,7 +54,7 @@ call_taken : (s : Share) (r : Replay) (v : View) (f : Flight) (p : Bool) (old : 
     → (program : Program) → i.rest ≡ program → IsNext program i.opened f.message → Taken s r v (waiting_as f p)
 unfolding Taken
 call_taken s r v f p old n i found owner item flying owned (Ask wish rest) asks asking =
-    subst (λ (a : Option Asked). (odd_unless (is_right_asked s r (waiting_as f p) a) ≡ None)
+    subst (λ (a : Option WireRequest). (odd_unless (is_right_asked s r (waiting_as f p) a) ≡ None)
     × Related (after_taking a (waiting_as f p) s) (after_asked s r (waiting_as f p) a) v) (sym asking)
     (owned_taken s r v f p old n i (the_owner n (owner_of f.mid r.owners) owned) wish rest found owner item flying asks
     (owner_there n (owner_of f.mid r.owners) owned) (owner_number n (owner_of f.mid r.owners) owned))
@@ -72,7 +72,7 @@ owner_taken : (s : Share) (r : Replay) (v : View) (f : Flight) (p : Bool) (old :
     → is_owned_by owner (owner_of f.mid r.owners) → Taken s r v (waiting_as f p)
 unfolding Taken
 owner_taken s r v f p old None found owner belongs owned =
-    subst (λ (a : Option Asked). (odd_unless (is_right_asked s r (waiting_as f p) a) ≡ None)
+    subst (λ (a : Option WireRequest). (odd_unless (is_right_asked s r (waiting_as f p) a) ≡ None)
     × Related (after_taking a (waiting_as f p) s) (after_asked s r (waiting_as f p) a) v) (sym belongs)
     (aside_taken s r v f p old found owner owned)
 owner_taken s r v f p old (Some n) found owner belongs owned =
@@ -164,15 +164,15 @@ none_of after (o ∷ os) all =
 
 none_ended : (s : Share) (r : Replay) (e : Event) → happens s e ≡ s → after_ends s e r ≡ r
 none_ended s r e same =
-    ap (λ (t : Share). record r { plain = all_ended r.pairs (ended_between s.opens t.opens) r.plain }) same
-    ∙ ap (λ (l : List Open). record r { plain = all_ended r.pairs l r.plain }) (none_of s.opens s.opens (stands_there s.opens))
+    ap (λ (t : Share). record r { plain = all_plain_ended r.pairs (ended_between s.opens t.opens) r.plain }) same
+    ∙ ap (λ (l : List Open). record r { plain = all_plain_ended r.pairs l r.plain }) (none_of s.opens s.opens (stands_there s.opens))
 
 not_broken : (opens : List Open) (key : Key) (leases : List Lease) (state : ℕ) → leases ≡ [] → MayBreak (breakable opens key leases) state → ⊥
 not_broken opens key leases state none may = subst (λ (l : List Lease). MayBreak (breakable opens key l) state) none may
 
 -- whatever the share does of itself, or for another client: it makes no difference, and what is related stays so
 pub share_related : (run : Run) (s : Share) (r : Replay) (v : View) (e : Event) → is_of_share e ≡ true → Related s r v → MayHappen s e
-    → (judge run s r e ≡ None) × Related (happens s e) (next run s r e) v
+    → (judge run s r e ≡ None) × Related (happens s e) (replay_step run s r e) v
 share_related run s r v (event.Took mid) is old may = took_related s r v mid old may
 share_related run s r v (event.Pend mid) is old may = (
   refl,
@@ -184,7 +184,7 @@ share_related run s r v (event.Break key state) is old may = absurd (not_broken 
 share_related run s r v (event.Dropped key) is old may =
     let same : happens s (event.Dropped key) ≡ s = ap (λ (l : List Open). all_closed l s) (none_dropped s.opens_made key s.opens old.standing.0) in (
       refl,
-      subst (λ (t : Share). Related t (next run s r (event.Dropped key)) v) (sym same)
+      subst (λ (t : Share). Related t (replay_step run s r (event.Dropped key)) v) (sym same)
           (subst (λ (t : Replay). Related s t v) (sym (none_ended s r (event.Dropped key) same)) old),
     )
 share_related run s r v (event.Marked m) is old may = absurd (false≢true is)

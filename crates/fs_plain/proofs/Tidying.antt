@@ -1,5 +1,5 @@
 -- Running calls still close the opens that they made, whatever they do.
-use Rattle.std.proofs.Common.{rules, ◌≡◌, ℕ, zero, suc, true, false, [], ◌∷◌, ◌++◌, ◌+◌, ◌<◌, refl, ap, sym, subst, ◌∙◌, inl, inr, None, Some, List, Option, Bool, ◌==◌, not, if◌then◌else◌}
+use Rattle.std.proofs.Common.{rules, ◌≡◌, ℕ, zero, suc, true, false, [], ◌∷◌, ◌++◌, ◌+◌, ◌<◌, refl, ap, sym, subst, ◌∙◌, inl, inr, None, Some, List, Option, Bool, ◌==◌, not, if◌then◌else◌, get_or}
 use Rattle.std.specs.Prelude.{map, length, nat_lt, Result, Ok, Err}
 use Rattle.std.specs.List.{AllByRecursion}
 use Rattle.std.proofs.lemmas.List.{length-append}
@@ -27,7 +27,7 @@ use Rattle.smb_link.specs.Stat.{stat_answer, stat_once_open}
 use Rattle.smb_link.specs.Calls.{program_of}
 use Rattle.fs_plain.specs.World.{us}
 use Rattle.fs_plain.specs.Replay.{Running, opened_number, running_with, running_but, with_running}
-use Rattle.fs_plain.specs.Taken.{nth, plain_file, wished_attributes, plain_wish, with_opened}
+use Rattle.fs_plain.specs.Taken.{plain_file, plain_fid, wished_attributes, wish_of, with_opened}
 use Rattle.fs_plain.specs.Differences.{announced_for}
 use Rattle.fs_plain.specs.Tidy.{closes, WillClose, Tidies, IsTidy, Closes, SomeCloses, IsToBeClosed, AreTidy}
 use Rattle.fs_plain.specs.Related.{IsStanding}
@@ -167,7 +167,7 @@ gone_on c rest reply = record c { rest = rest (shown reply); opened = with_opene
 below_more : (n m : ℕ) → n < m → n < m + 1
 below_more n m low = search rules
 
-nth_more : (n : ℕ) (xs : List ℕ) (x : ℕ) → n < length xs → nth n (xs ++ x ∷ []) ≡ nth n xs
+nth_more : (n : ℕ) (xs : List ℕ) (x : ℕ) → n < length xs → get_or (xs ++ x ∷ []) n 0 ≡ get_or xs n 0
 nth_more n [] x low = search rules
 nth_more zero (y ∷ ys) x low = refl
 nth_more (suc n) (y ∷ ys) x low = nth_more n ys x (lower n (length ys) low)
@@ -175,17 +175,17 @@ nth_more (suc n) (y ∷ ys) x low = nth_more n ys x (lower n (length ys) low)
     lower : (n m : ℕ) → suc n < suc m → n < m
     lower n m low = search rules
 
-nth_last : (xs : List ℕ) (x : ℕ) → nth (length xs) (xs ++ x ∷ []) ≡ x
+nth_last : (xs : List ℕ) (x : ℕ) → get_or (xs ++ x ∷ []) (length xs) 0 ≡ x
 nth_last [] x = refl
 nth_last (y ∷ ys) x = nth_last ys x
 
 -- an open that it made before it still has
-has_still : (n number : ℕ) (reply : Rep) (opened : List ℕ) → n < length opened → nth n opened ≡ number
-    → (n < length (with_opened reply opened)) × (nth n (with_opened reply opened) ≡ number)
+has_still : (n number : ℕ) (reply : Rep) (opened : List ℕ) → n < length opened → get_or opened n 0 ≡ number
+    → (n < length (with_opened reply opened)) × (get_or (with_opened reply opened) n 0 ≡ number)
 has_still n number reply opened low is = by (opened_number reply.body == 0)
   where
     by : (t : Bool) → (n < length (if t then opened else opened ++ opened_number reply.body ∷ []))
-        × (nth n (if t then opened else opened ++ opened_number reply.body ∷ []) ≡ number)
+        × (get_or (if t then opened else opened ++ opened_number reply.body ∷ []) n 0 ≡ number)
     by true = (low, is)
     by false = (
       subst (λ (m : ℕ). n < m) (sym (length-append opened (opened_number reply.body ∷ []))) (below_more n (length opened) low),
@@ -194,7 +194,7 @@ has_still n number reply opened low is = by (opened_number reply.body == 0)
 
 -- it will close what it was going to close, unless this request closed it
 closing_still : (o : Open) (c : Running) (wish : Wish) (rest : Rep → Program) (reply : Rep) → c.rest ≡ Ask wish rest
-    → ((n : ℕ) → closes n wish ≡ true → nth n c.opened ≡ o.number → ⊥) → Closes o c → Closes o (gone_on c rest reply)
+    → ((n : ℕ) → closes n wish ≡ true → get_or c.opened n 0 ≡ o.number → ⊥) → Closes o c → Closes o (gone_on c rest reply)
 closing_still o c wish rest reply asks not_this is =
     let has = has_still is.0 o.number reply c.opened is.1 is.2 in
     (is.0, has.0, has.1, later (subst (WillClose is.0) asks is.3))
@@ -270,7 +270,7 @@ TidyAfter running c rest done = AreTidy (with_running (gone_on c rest done.0) ru
 
 -- an open is not one of this client that the request of a call closes
 abbrev IsLeft : Running → Wish → Open → Type 0
-IsLeft c wish o = (o.who.0 == 0) ≡ true → (n : ℕ) → closes n wish ≡ true → nth n c.opened ≡ o.number → ⊥
+IsLeft c wish o = (o.who.0 == 0) ≡ true → (n : ℕ) → closes n wish ≡ true → get_or c.opened n 0 ≡ o.number → ⊥
 
 -- it gives no open: what it left is still to be closed
 on_without : (running : List Running) (c : Running) (wish : Wish) (rest : Rep → Program) (done : Rep × Share)
@@ -318,9 +318,9 @@ create_tidy s running c path access disposition options rest done found asks tid
     let number : ℕ = opened_number done.0.body in
     let has_none : (number == 0) ≡ false = ap (λ (n : ℕ). n == 0) given.gives ∙ given.numbered in
     let later : WillClose (length c.opened) (rest (shown done.0)) × Tidies (length c.opened + 1) (rest (shown done.0)) = (tidies (shown done.0)).0 given.succeeds in
-    let has : (length c.opened < length new.opened) × (nth (length c.opened) new.opened ≡ given.new.number) =
+    let has : (length c.opened < length new.opened) × (get_or new.opened (length c.opened) 0 ≡ given.new.number) =
     subst (λ (t : Bool). (length c.opened < length (if t then c.opened else c.opened ++ number ∷ []))
-    × (nth (length c.opened) (if t then c.opened else c.opened ++ number ∷ []) ≡ given.new.number)) (sym has_none)
+    × (get_or (if t then c.opened else c.opened ++ number ∷ []) (length c.opened) 0 ≡ given.new.number)) (sym has_none)
     (subst (λ (n : ℕ). length c.opened < n) (sym (length-append c.opened (number ∷ []))) (one_more (length c.opened)), nth_last c.opened number ∙ given.gives) in
     record {
       closing = subst (AllByRecursion (IsToBeClosed (with_running new running))) (sym given.more)
@@ -346,10 +346,10 @@ close_gives None s = refl
 close_gives (Some o) s = refl
 
 -- a CLOSE leaves no open that it speaks of
-close_leaves : (opens : List Open) (c : Running) (k : ℕ) → AllByRecursion (IsGone (nth k c.opened)) opens → AllByRecursion (IsLeft c (Close (Own k))) opens
+close_leaves : (opens : List Open) (c : Running) (k : ℕ) → AllByRecursion (IsGone (get_or c.opened k 0)) opens → AllByRecursion (IsLeft c (Close (Own k))) opens
 close_leaves opens c k all =
-    every-more (IsGone (nth k c.opened)) (IsLeft c (Close (Own k)))
-    (λ o gone own n this has. differs o.number (nth k c.opened) (gone own) (ap (λ (m : ℕ). nth m c.opened) (same k n this) ∙ has)) opens all
+    every-more (IsGone (get_or c.opened k 0)) (IsLeft c (Close (Own k)))
+    (λ o gone own n this has. differs o.number (get_or c.opened k 0) (gone own) (ap (λ (m : ℕ). get_or c.opened m 0) (same k n this) ∙ has)) opens all
   where
     same : (k n : ℕ) → (k == n) ≡ true → k ≡ n
     same k n is = search rules
@@ -360,7 +360,7 @@ close_leaves opens c k all =
 -- the next request of a call is done: each open of the client is still to be closed
 pub wish_tidy : (choice : Option Grant) (s : Share) (running : List Running) (c : Running) (wish : Wish) (rest : Rep → Program)
     → running_with c.number running ≡ Some c → c.rest ≡ Ask wish rest → AllByRecursion (IsStanding s.opens_made) s.opens → AreTidy running s.opens
-    → TidyAfter running c rest (step_of choice s us (plain_wish c.opened wish))
+    → TidyAfter running c rest (step_of choice s us (wish_of (plain_fid c.opened) wish))
 wish_tidy choice s running c (Opening path access disposition options) rest found asks stands old =
     let w : Wanted = record { access = access; share = 7; disposition = disposition; options = options; attributes = wished_attributes options } in
     create_tidy s running c path access disposition options rest (create_of s us path w) found asks
@@ -378,8 +378,8 @@ wish_tidy choice s running c (Close Named) rest found asks stands old =
     (subst (Tidies (length c.opened)) asks (running_holds IsTidy c.number running c found old.calls).0 (shown (close_open named s).0)) closing
     (all_left running c (Close Named) (λ n. refl) (close_open named s).1.opens closing) old.calls
 wish_tidy choice s running c (Close (Own k)) rest found asks stands old =
-    let named : Option Open = open_of s.opens us (fid_of (nth k c.opened)) in
+    let named : Option Open = open_of s.opens us (fid_of (get_or c.opened k 0)) in
     on_without running c (Close (Own k)) rest (close_open named s) found asks (close_gives named s)
     (subst (Tidies (length c.opened)) asks (running_holds IsTidy c.number running c found old.calls).0 (shown (close_open named s).0))
     (close_every (IsToBeClosed running) named s old.closing)
-    (close_leaves (close_open named s).1.opens c k (closed_gone (nth k c.opened) s stands)) old.calls
+    (close_leaves (close_open named s).1.opens c k (closed_gone (get_or c.opened k 0) s stands)) old.calls

@@ -16,12 +16,13 @@ use Rattle.share_spec.specs.declared.share.Share.{Share}
 use Rattle.share_spec.specs.Built.{is_built}
 use Rattle.share_spec.specs.Step.{step_of}
 use Rattle.share_spec.specs.PlainShare.{plain_step, plain_request, shown}
+use Rattle.share_spec.specs.Sent.{behind_create, sent_but}
 use Rattle.smb_link.specs.Program.{Wish, Open as Opening, Query, Close, Program, Ask, settled}
-use Rattle.fs_plain.specs.Requests.{Asked}
+use Rattle.fs_plain.specs.Requests.{WireRequest}
 use Rattle.fs_plain.specs.Answered.{odd_unless}
-use Rattle.fs_plain.specs.World.{us, put_off, sent_but, behind_create, is_creating, after_done, after_aside, done_of, choice_now, came_to}
+use Rattle.fs_plain.specs.World.{us, put_off, is_creating, after_done, after_aside, done_of, choice_now, came_to}
 use Rattle.fs_plain.specs.Replay.{Running, Owner, Replay, running_with, with_running, owner_of}
-use Rattle.fs_plain.specs.Taken.{plain_wish, with_opened, is_wished, after_wish_done, after_next, after_owned, is_right_owned, is_next, after_asked, is_right_asked, after_request, is_right_request}
+use Rattle.fs_plain.specs.Taken.{plain_fid, wish_of, with_opened, is_wished, after_wish_done, after_next, after_owned, is_right_owned, is_next, after_asked, is_right_asked, after_request, is_right_request}
 use Rattle.fs_plain.specs.View.{Item, Flight, View, same_flying, item_with, flight_with, flights_but, left, is_of_call, is_owned_by, IsFor, IsOf, Sound, calm, waits, reply_for, reply_of_flying, rest_after, opened_after, ran}
 use Rattle.fs_plain.specs.Related.{Related, bare, IsOther, AreDistinct, IsNamed}
 use Rattle.fs_plain.proofs.PlainTree.{bare_of, step_bare}
@@ -40,27 +41,27 @@ bytes_itself xs = search rules
 and_true : (a b : Bool) → a ≡ true → b ≡ true → (a && b) ≡ true
 and_true a b x y = ap (λ (t : Bool). t && b) x ∙ y
 
-wished_itself : (opened : List ℕ) (wish : Wish) → is_wished wish (plain_wish opened wish) ≡ true
+wished_itself : (opened : List ℕ) (wish : Wish) → is_wished wish (wish_of (plain_fid opened) wish) ≡ true
 wished_itself opened (Opening path access disposition options) =
     and_true _ _ (and_true _ _ (and_true _ _ (and_true _ _ (and_true _ _ (bytes_itself path) (number_itself access)) refl) (number_itself disposition)) (number_itself options)) (number_itself _)
 wished_itself opened (Query file) = refl
 wished_itself opened (Close file) = refl
 
-wish_built : (opened : List ℕ) (wish : Wish) → is_built (plain_wish opened wish) ≡ true
+wish_built : (opened : List ℕ) (wish : Wish) → is_built (wish_of (plain_fid opened) wish) ≡ true
 wish_built opened (Opening path access disposition options) = refl
 wish_built opened (Query file) = refl
 wish_built opened (Close file) = refl
 
-wish_plain : (opened : List ℕ) (wish : Wish) → plain_request (plain_wish opened wish) ≡ plain_wish opened wish
+wish_plain : (opened : List ℕ) (wish : Wish) → plain_request (wish_of (plain_fid opened) wish) ≡ wish_of (plain_fid opened) wish
 wish_plain opened (Opening path access disposition options) = refl
 wish_plain opened (Query file) = refl
 wish_plain opened (Close file) = refl
 
 -- the plain share does it as the real one does
 pub wish_done : (choice : Option Grant) (s : Share) (opened : List ℕ) (wish : Wish)
-    → plain_step (bare s) us (plain_wish opened wish) ≡ bare_of (step_of choice s us (plain_wish opened wish))
+    → plain_step (bare s) us (wish_of (plain_fid opened) wish) ≡ bare_of (step_of choice s us (wish_of (plain_fid opened) wish))
 wish_done choice s opened wish =
-    step_bare choice (Some (record { lease = 0; durable = false })) s us (plain_wish opened wish) (wish_built opened wish)
+    step_bare choice (Some (record { lease = 0; durable = false })) s us (wish_of (plain_fid opened) wish) (wish_built opened wish)
 
 -- the calls run on where a reply to another request is owed too
 elsewhere : (m : Mid) (q : List ℕ) (reply : Rep) (coming : List Owed) (i : Item) → same_flying (Some m) i.flying ≡ false
@@ -159,31 +160,31 @@ runs coming n [] = refl
 runs coming n (i ∷ items) = some_ran coming i (i.number == n) (running_with n (map (ran coming) items)) (item_with n items) (runs coming n items)
 
 -- no other request of a frame waits: each stands in a frame of its own
-commutes : (m : Mid) (reply : Rep) (x : Sent) → calm (behind_create m reply x) ≡ behind_create m reply (calm x)
+commutes : (m : Mid) (reply : Rep) (x : Sent) → calm (behind_create m (came_to reply reply.body) x) ≡ behind_create m (came_to reply reply.body) (calm x)
 commutes m reply x = by (x.frame.0 == m.0)
   where
     by : (t : Bool) → calm (if t then record x { last_create = came_to reply reply.body } else x) ≡ (if t then record (calm x) { last_create = came_to reply reply.body } else calm x)
     by true = refl
     by false = refl
 
-behind_none : (m : Mid) (reply : Rep) (fs : List Flight) → map (behind_create m reply) (map waits (flights_but m fs)) ≡ map waits (flights_but m fs)
+behind_none : (m : Mid) (reply : Rep) (fs : List Flight) → map (behind_create m (came_to reply reply.body)) (map waits (flights_but m fs)) ≡ map waits (flights_but m fs)
 behind_none m reply [] = refl
 behind_none m reply (f ∷ fs) = elim (eqb_tells f.mid.0 m.0) [
-  | inl told ↦ subst (λ (t : Bool). map (behind_create m reply) (map waits (if not t then f ∷ flights_but m fs else flights_but m fs)) ≡ map waits (if not t then f ∷ flights_but m fs else flights_but m fs)) (sym told.0) (behind_none m reply fs)
-  | inr told ↦ subst (λ (t : Bool). map (behind_create m reply) (map waits (if not t then f ∷ flights_but m fs else flights_but m fs)) ≡ map waits (if not t then f ∷ flights_but m fs else flights_but m fs)) (sym told.0)
-      (ap (λ (t : Bool). (if t then record (waits f) { last_create = came_to reply reply.body } else waits f) ∷ map (behind_create m reply) (map waits (flights_but m fs))) told.0
+  | inl told ↦ subst (λ (t : Bool). map (behind_create m (came_to reply reply.body)) (map waits (if not t then f ∷ flights_but m fs else flights_but m fs)) ≡ map waits (if not t then f ∷ flights_but m fs else flights_but m fs)) (sym told.0) (behind_none m reply fs)
+  | inr told ↦ subst (λ (t : Bool). map (behind_create m (came_to reply reply.body)) (map waits (if not t then f ∷ flights_but m fs else flights_but m fs)) ≡ map waits (if not t then f ∷ flights_but m fs else flights_but m fs)) (sym told.0)
+      (ap (λ (t : Bool). (if t then record (waits f) { last_create = came_to reply reply.body } else waits f) ∷ map (behind_create m (came_to reply reply.body)) (map waits (flights_but m fs))) told.0
       ∙ ap (λ (l : List Sent). waits f ∷ l) (behind_none m reply fs))
 ]
 
-map_commutes : (m : Mid) (reply : Rep) (xs : List Sent) → map calm (map (behind_create m reply) xs) ≡ map (behind_create m reply) (map calm xs)
+map_commutes : (m : Mid) (reply : Rep) (xs : List Sent) → map calm (map (behind_create m (came_to reply reply.body)) xs) ≡ map (behind_create m (came_to reply reply.body)) (map calm xs)
 map_commutes m reply [] = refl
 map_commutes m reply (x ∷ xs) =
-    ap (λ (y : Sent). y ∷ map calm (map (behind_create m reply) xs)) (commutes m reply x)
-    ∙ ap (λ (l : List Sent). behind_create m reply (calm x) ∷ l) (map_commutes m reply xs)
+    ap (λ (y : Sent). y ∷ map calm (map (behind_create m (came_to reply reply.body)) xs)) (commutes m reply x)
+    ∙ ap (λ (l : List Sent). behind_create m (came_to reply reply.body) (calm x) ∷ l) (map_commutes m reply xs)
 
 pub behind : (m : Mid) (reply : Rep) (creating : Bool) (xs : List Sent) (fs : List Flight) → map calm xs ≡ map waits (flights_but m fs)
-    → map calm (if creating then map (behind_create m reply) xs else xs) ≡ map waits (flights_but m fs)
-behind m reply true xs fs same = map_commutes m reply xs ∙ ap (map (behind_create m reply)) same ∙ behind_none m reply fs
+    → map calm (if creating then map (behind_create m (came_to reply reply.body)) xs else xs) ≡ map waits (flights_but m fs)
+behind m reply true xs fs same = map_commutes m reply xs ∙ ap (map (behind_create m (came_to reply reply.body))) same ∙ behind_none m reply fs
 behind m reply false xs fs same = same
 
 -- where no other reply is coming the calls have come as far as before
@@ -219,7 +220,7 @@ no_owner (Some o) is = absurd is
 -- a request of the connection itself is taken
 pub aside_taken : (s : Share) (r : Replay) (v : View) (f : Flight) (p : Bool) (old : Related s r v)
     → flight_with f.mid (left v.flights (old.paid ++ s.owed)) ≡ Some f → f.owner ≡ None → is_owned_by None (owner_of f.mid r.owners)
-    → (odd_unless (is_right_asked s r (waiting_as f p) (Some Asked.Aside)) ≡ None) × Related (after_aside (waiting_as f p) s) r v
+    → (odd_unless (is_right_asked s r (waiting_as f p) (Some WireRequest.Aside)) ≡ None) × Related (after_aside (waiting_as f p) s) r v
 aside_taken s r v f p old found none unowned =
     let coming : List Owed = old.paid ++ s.owed in
     let new : Owed = owed.Aside f.mid f.message in
@@ -343,12 +344,12 @@ pub owned_taken : (s : Share) (r : Replay) (v : View) (f : Flight) (p : Bool) (o
     → flight_with f.mid (left v.flights (old.paid ++ s.owed)) ≡ Some f → f.owner ≡ Some n
     → item_with n v.items ≡ Some i → i.flying ≡ Some f.mid → i.rest ≡ Ask wish rest
     → owner_of f.mid r.owners ≡ Some o → o.number ≡ n
-    → (odd_unless (is_right_asked s r (waiting_as f p) (Some (Asked.Share false (plain_wish i.opened wish)))) ≡ None)
-    × Related (after_done (waiting_as f p) (plain_wish i.opened wish) (done_of (choice_now s.grants) s false last.Nothing (plain_wish i.opened wish)))
-    (after_asked s r (waiting_as f p) (Some (Asked.Share false (plain_wish i.opened wish)))) v
+    → (odd_unless (is_right_asked s r (waiting_as f p) (Some (WireRequest.Share false (wish_of (plain_fid i.opened) wish)))) ≡ None)
+    × Related (after_done (waiting_as f p) (wish_of (plain_fid i.opened) wish) (done_of (choice_now s.grants) s false last.Nothing (wish_of (plain_fid i.opened) wish)))
+    (after_asked s r (waiting_as f p) (Some (WireRequest.Share false (wish_of (plain_fid i.opened) wish)))) v
 owned_taken s r v f p old n i o wish rest found owner item flying asks owned number =
     let coming : List Owed = old.paid ++ s.owed in
-    let request : Req = plain_wish i.opened wish in
+    let request : Req = wish_of (plain_fid i.opened) wish in
     let done : Rep × Share = step_of (choice_now s.grants) s us request in
     let leaves : (connection done.1 ≡ connection s) × (s.leases ≡ [] → done.1.leases ≡ []) = step_leaves (choice_now s.grants) s us request in
     let new : Owed = owed.Reply f.mid f.message done.0 in
@@ -359,11 +360,11 @@ owned_taken s r v f p old n i o wish rest found owner item flying asks owned num
     let left_over : c.rest ≡ Ask wish rest = not_come coming f.mid i flying none ∙ asks in
     let joins : coming ++ new ∷ [] ≡ old.paid ++ (done.1.owed ++ new ∷ []) =
     append_assoc old.paid s.owed (new ∷ []) ∙ ap (λ (k : Connection). old.paid ++ (k.owed ++ new ∷ [])) (sym leaves.0) in
-    let plainly : plain_step r.plain us (plain_wish c.opened wish) ≡ bare_of done =
-    ap (λ (t : Share). plain_step t us (plain_wish c.opened wish)) old.tree
-    ∙ ap (λ (l : List ℕ). plain_step (bare s) us (plain_wish l wish)) (not_opened coming f.mid i flying none)
+    let plainly : plain_step r.plain us (wish_of (plain_fid c.opened) wish) ≡ bare_of done =
+    ap (λ (t : Share). plain_step t us (wish_of (plain_fid c.opened) wish)) old.tree
+    ∙ ap (λ (l : List ℕ). plain_step (bare s) us (wish_of (plain_fid l) wish)) (not_opened coming f.mid i flying none)
     ∙ wish_done (choice_now s.grants) s i.opened wish in
-    let next_is : after_wish_done r c rest (bare_of done) done.0 ≡ after_asked s r (waiting_as f p) (Some (Asked.Share false request)) =
+    let next_is : after_wish_done r c rest (bare_of done) done.0 ≡ after_asked s r (waiting_as f p) (Some (WireRequest.Share false request)) =
     ap (λ (d : Rep × Share). after_wish_done r c rest d done.0) (sym plainly)
     ∙ ap (λ (t : Program). after_next r c (settled o.known t) done.0) (sym left_over)
     ∙ ap (λ (t : Option Running). after_owned r t o.known false done.0) (sym run_on)
@@ -397,7 +398,7 @@ owned_taken s r v f p old n i o wish rest found owner item flying asks owned num
         belongs = old.belongs;
         calls = old.calls;
         named = old.named;
-        tidy = subst (λ (l : List ℕ). TidyAfter r.running c rest (step_of (choice_now s.grants) s us (plain_wish l wish))) (not_opened coming f.mid i flying none)
+        tidy = subst (λ (l : List ℕ). TidyAfter r.running c rest (step_of (choice_now s.grants) s us (wish_of (plain_fid l) wish))) (not_opened coming f.mid i flying none)
             (wish_tidy (choice_now s.grants) s r.running c wish rest
             (subst (λ (k : ℕ). running_with k r.running ≡ Some c) (number ∙ sym (item_holds IsNamed n v.items i item old.named).1) run_on)
             left_over old.standing.0 old.tidy);

@@ -1,6 +1,7 @@
 -- What the share chose at each request that it took, read from the replies that come later.
 use Rattle.std.specs.Prelude.{ℕ, ◌==◌, Bool, false, not, ◌&&◌, if◌then◌else◌, List, [], ◌∷◌, ◌++◌, Option, Some, None, Result, Ok, Err}
 use Rattle.smb_base.specs.declared.names.Mid.{Mid}
+use Rattle.smb_head.specs.declared.command.TheConstants.{CREATE}
 use Rattle.smb_head.specs.declared.head.Head.{Head}
 use Rattle.smb_head.specs.declared.head.HeadFault.{HeadFault}
 use Rattle.smb_head.specs.Header.{head_of}
@@ -34,7 +35,7 @@ choice_of (Some b) = grant_in b
 
 abbrev pub is_opened : Result Head HeadFault → Bool
 is_opened (Err fault) = false
-is_opened (Ok head) = head.command == 5 && head.status.0 == 0
+is_opened (Ok head) = head.command == CREATE && head.status.0 == 0
 
 -- the choice that the first final reply to a request tells: that of a CREATE that succeeded; of every other none is told
 abbrev pub choice_among : Mid → List (Result (List ℕ) BadNext) → Option Grant

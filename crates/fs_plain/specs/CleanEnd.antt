@@ -6,7 +6,7 @@ use Rattle.smb_link.specs.declared.event.Event.{Event}
 use Rattle.fs_plain.specs.World.{happens}
 use Rattle.fs_plain.specs.Honest.{start}
 use Rattle.fs_plain.specs.Replay.{Run, Replay, at_first}
-use Rattle.fs_plain.specs.Differences.{next}
+use Rattle.fs_plain.specs.Differences.{replay_step}
 
 -- the real share after these events
 abbrev pub share_after : Share → List Event → Share
@@ -16,7 +16,7 @@ share_after s (e ∷ events) = share_after (happens s e) events
 -- the replay after them
 abbrev pub replay_after : Run → Share → Replay → List Event → Replay
 replay_after run s r [] = r
-replay_after run s r (e ∷ events) = replay_after run (happens s e) (next run s r e) events
+replay_after run s r (e ∷ events) = replay_after run (happens s e) (replay_step run s r e) events
 
 -- the share is left as the plain client leaves it: the files, their bytes and their names are those of the plain share, and no open of
 -- this client stands

@@ -11,7 +11,7 @@ use Rattle.share_spec.specs.declared.request.Req.{Req}
 use Rattle.share_spec.specs.declared.request.Req.TheVariants as req
 use Rattle.share_spec.specs.declared.request.Rep.{Rep}
 use Rattle.share_spec.specs.declared.share.Share.{Share}
-use Rattle.share_spec.specs.Reply.{fid_of}
+use Rattle.share_spec.specs.Reply.{fid_of, map_fid}
 use Rattle.share_spec.specs.Close.{closed}
 use Rattle.share_spec.specs.PlainShare.{plain_step}
 use Rattle.smb_link.specs.declared.event.Event.{Event}
@@ -98,9 +98,9 @@ abbrev pub closed_if : Option Open → Share → Share
 closed_if None s = s
 closed_if (Some o) s = closed o s
 
-abbrev pub all_ended : List (ℕ × ℕ) → List Open → Share → Share
-all_ended pairs [] plain = plain
-all_ended pairs (o ∷ os) plain = all_ended pairs os (closed_if (with_number (plain_of pairs o.number) plain.opens) plain)
+abbrev pub all_plain_ended : List (ℕ × ℕ) → List Open → Share → Share
+all_plain_ended pairs [] plain = plain
+all_plain_ended pairs (o ∷ os) plain = all_plain_ended pairs os (closed_if (with_number (plain_of pairs o.number) plain.opens) plain)
 
 -- the opens that stand in the first list and no more in the second
 abbrev pub ended_between : List Open → List Open → List Open
@@ -108,20 +108,15 @@ ended_between before after = filter (λ o. not (list_any (λ q. q.number == o.nu
 
 -- an event that ends opens of the real share ends those that stand for them, each as by a Close
 abbrev pub after_ends : Share → Event → Replay → Replay
-after_ends s e r = record r { plain = all_ended r.pairs (ended_between s.opens (happens s e).opens) r.plain }
+after_ends s e r = record r { plain = all_plain_ended r.pairs (ended_between s.opens (happens s e).opens) r.plain }
 
 -- with the connection what was sent on it goes
-abbrev pub without_flight : Replay → Replay
-without_flight r = record r { owners = []; announced = None }
+abbrev pub without_owners : Replay → Replay
+without_owners r = record r { owners = []; announced = None }
 
 -- another client's file id, carried over to the plain share
 abbrev pub carried_fid : List (ℕ × ℕ) → Fid → Fid
 carried_fid pairs fid = if fid.persistent == fid.volatile then fid_of (plain_of pairs fid.persistent) else fid_of 0
-
-abbrev pub carried : List (ℕ × ℕ) → Req → Req
-carried pairs (req.Close fid) = req.Close (carried_fid pairs fid)
-carried pairs (req.Query fid) = req.Query (carried_fid pairs fid)
-carried pairs r = r
 
 -- what speaks of leases and lost connections alone is not done on the plain share
 abbrev pub is_passed_over : Req → Bool
@@ -131,7 +126,7 @@ is_passed_over r = false
 
 -- another client's request on the plain share
 abbrev pub plain_act : Replay → ℕ → Req → Rep × Share
-plain_act r who request = plain_step r.plain (record { 0 = who }) (carried r.pairs request)
+plain_act r who request = plain_step r.plain (record { 0 = who }) (map_fid (carried_fid r.pairs) request)
 
 abbrev pub after_act : Replay → ℕ → Req → Rep → Replay
 after_act r who request reply =
@@ -156,20 +151,20 @@ next_mark run r (mark.Now time) = record r { now = time }
 next_mark run r mark.End = r
 
 -- the replay after an event at the real share with its connection
-abbrev pub next : Run → Share → Replay → Event → Replay
-next run s r (event.Marked m) = next_mark run r m
-next run s r (event.Sent frame) = after_sending r frame
-next run s r (event.Got bytes) =
+abbrev pub replay_step : Run → Share → Replay → Event → Replay
+replay_step run s r (event.Marked m) = next_mark run r m
+replay_step run s r (event.Sent frame) = after_sending r frame
+replay_step run s r (event.Got bytes) =
     record r { known = record r.known { facts = facts_after (messages_got bytes s) r.known.facts } }
-next run s r event.Quiet = r
-next run s r event.Joined = without_flight r
-next run s r event.NotJoined = r
-next run s r event.Cut = without_flight (after_ends s event.Cut r)
-next run s r (event.Took mid) = after_taken s r mid
-next run s r (event.Pend mid) = r
-next run s r (event.Act who request reply) = after_act r who request reply
-next run s r (event.Break key state) = r
-next run s r (event.Dropped key) = after_ends s (event.Dropped key) r
+replay_step run s r event.Quiet = r
+replay_step run s r event.Joined = without_owners r
+replay_step run s r event.NotJoined = r
+replay_step run s r event.Cut = without_owners (after_ends s event.Cut r)
+replay_step run s r (event.Took mid) = after_taken s r mid
+replay_step run s r (event.Pend mid) = r
+replay_step run s r (event.Act who request reply) = after_act r who request reply
+replay_step run s r (event.Break key state) = r
+replay_step run s r (event.Dropped key) = after_ends s (event.Dropped key) r
 
 abbrev pub judge_mark : Run → Replay → Mark → Option Difference
 judge_mark run r (mark.Begin number lane call) = odd_unless (is_right_begin r number lane)
@@ -195,7 +190,7 @@ first_of_two n None later = later
 abbrev pub difference_from : Run → ℕ → Share → Replay → List Event → Option (ℕ × Difference)
 difference_from run n s r [] = None
 difference_from run n s r (e ∷ events) =
-    first_of_two n (judge run s r e) (difference_from run (n + 1) (happens s e) (next run s r e) events)
+    first_of_two n (judge run s r e) (difference_from run (n + 1) (happens s e) (replay_step run s r e) events)
 
 -- the first difference of a story, with the number of its event from 1 on
 abbrev pub difference : Run → ℕ → Bool → List Event → Option (ℕ × Difference)

@@ -16,7 +16,7 @@ use Rattle.share_spec.specs.Breaks.{needs_of}
 use Rattle.share_spec.specs.Grants.{is_allowed}
 use Rattle.smb_link.specs.declared.event.Event.{Event}
 use Rattle.smb_link.specs.declared.event.Event.TheVariants as event
-use Rattle.fs_plain.specs.Requests.{Asked, asked}
+use Rattle.fs_plain.specs.Requests.{WireRequest, wire_request}
 use Rattle.fs_plain.specs.Replies.{Pays}
 use Rattle.fs_plain.specs.World.{us, sent_with, is_first_of_frame, resolved, refused_before, choice_now, act_of, grant_in, breakable, messages_got, happens}
 use Rattle.fs_plain.specs.Ahead.{ahead}
@@ -27,16 +27,16 @@ abbrev pub MayBeDone : Option ℕ → Option Grant → Share → Req → Type 0
 MayBeDone (Some status) choice s r = Unit {0}
 MayBeDone None choice s r = (needs_of s us r ≡ []) × (is_allowed choice s us r ≡ true)
 
-abbrev pub MayBeTakenAs : Option Asked → LastCreate → Share → Type 0
+abbrev pub MayBeTakenAs : Option WireRequest → LastCreate → Share → Type 0
 MayBeTakenAs None before s = ⊥
-MayBeTakenAs (Some Asked.Aside) before s = Unit {0}
-MayBeTakenAs (Some (Asked.Share related r)) before s =
+MayBeTakenAs (Some WireRequest.Aside) before s = Unit {0}
+MayBeTakenAs (Some (WireRequest.Share related r)) before s =
     MayBeDone (refused_before related before r) (choice_now s.grants) s (resolved related before r)
 
 -- a request is taken that was sent on this connection and was not taken, and that is the first of its frame to be so
 abbrev pub MayTake : Option Sent → Share → Type 0
 MayTake None s = ⊥
-MayTake (Some x) s = (is_first_of_frame s.sent x ≡ true) × MayBeTakenAs (asked x.message) x.last_create s
+MayTake (Some x) s = (is_first_of_frame s.sent x ≡ true) × MayBeTakenAs (wire_request x.message) x.last_create s
 
 -- a request is put off that was sent on this connection and was not taken, once at most
 abbrev pub MayPend : Option Sent → Type 0

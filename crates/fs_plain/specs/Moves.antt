@@ -1,7 +1,7 @@
 -- What a story so far has to keep, whatever the share is going to choose: no difference, and something that holds of the two shares.
 -- And how a function over a link says that it leads from one such state to another.
 use Rattle.std.specs.Prelude.{◌≡◌, ℕ, Bool, true, false, List, [], ◌∷◌, map, Option, Some, None}
-use Rattle.smb_link.specs.Story.{told}
+use Rattle.smb_link.specs.Story.{story_with}
 use Rattle.fs_types.specs.declared.options.Options.{Options}
 use Rattle.fs_plain.specs.View.{Item, View}
 use Rattle.fs_plain.specs.Related.{Related}
@@ -12,13 +12,13 @@ use Rattle.smb_link.specs.declared.event.Event.{Event}
 use Rattle.fs_plain.specs.World.{happens}
 use Rattle.fs_plain.specs.Honest.{HonestFrom, IsHonest}
 use Rattle.fs_plain.specs.Replay.{Run, Replay, at_first}
-use Rattle.fs_plain.specs.Differences.{next, judge, difference}
+use Rattle.fs_plain.specs.Differences.{replay_step, judge, difference}
 use Rattle.fs_plain.specs.CleanEnd.{share_after, replay_after, EndsClean}
 
 -- none of these events makes a difference
 abbrev pub NoDifference : Run → Share → Replay → List Event → Type 0
 NoDifference run s r [] = Unit {0}
-NoDifference run s r (e ∷ events) = (judge run s r e ≡ None) × NoDifference run (happens s e) (next run s r e) events
+NoDifference run s r (e ∷ events) = (judge run s r e ≡ None) × NoDifference run (happens s e) (replay_step run s r e) events
 
 -- the share and the replay before the first event, whatever the share is going to choose and however many calls are to begin
 abbrev pub at_start : ℕ → Bool → List (Option Grant) → Share
@@ -41,7 +41,7 @@ run_of options seed status = record { options = options; seed = seed; status = s
 -- every share and whatever the status will be
 pub record Going (options : Options) (seed : List ℕ) (begin now : Option (List Event)) (v : View) : Type 0 where
   pub came : List Event
-  pub story : now ≡ told begin came
+  pub story : now ≡ story_with begin came
   pub holds : (status room : ℕ) (fold : Bool) → Holds (run_of options seed status) room fold (λ s r. Related s r v) came
 
 -- what was done leads from one view to another, whenever the story began
@@ -66,7 +66,7 @@ RemainsUnless false numbers s r = Remains numbers s r
 -- their numbers
 pub record Gone (options : Options) (seed : List ℕ) (numbers : List ℕ) (foul : Bool) (begin now : Option (List Event)) : Type 0 where
   pub came : List Event
-  pub story : now ≡ told begin came
+  pub story : now ≡ story_with begin came
   pub holds : (status room : ℕ) (fold : Bool) → Holds (run_of options seed status) room fold (RemainsUnless foul numbers) came
 
 -- what was done leads from a view to the end of a run, foul or not, whenever the story began
@@ -76,7 +76,7 @@ pub record Leaves (options : Options) (seed : List ℕ) (v : View) (foul : Bool)
 -- the story is over: these events came, and where the run ended by such a status they make no difference, and this holds of the shares
 pub record Over (options : Options) (seed : List ℕ) (ends : ℕ → Bool) (P : Share → Replay → Type 0) (begin now : Option (List Event)) : Type 0 where
   pub came : List Event
-  pub story : now ≡ told begin came
+  pub story : now ≡ story_with begin came
   pub holds : (status room : ℕ) (fold : Bool) → ends status ≡ true → Holds (run_of options seed status) room fold P came
 
 -- what was done leads from the end of a run, foul or not and with these calls unanswered, to the end of its story

@@ -8,7 +8,7 @@ use Rattle.smb_link.specs.declared.mark.Mark.TheVariants as mark
 use Rattle.fs_plain.specs.World.{happens}
 use Rattle.fs_plain.specs.Honest.{start}
 use Rattle.fs_plain.specs.Replay.{Run, Replay, at_first}
-use Rattle.fs_plain.specs.Differences.{next}
+use Rattle.fs_plain.specs.Differences.{replay_step}
 
 -- a moment at which the client has to be prompt: a call begins, or nothing comes for a while
 abbrev pub is_moment : Event → Bool
@@ -25,7 +25,7 @@ is_prompt s r = not (list_any (λ l. l.who.0 == 0 && is_some l.asked) s.leases) 
 abbrev pub PromptFrom : Run → Share → Replay → List Event → Type 0
 PromptFrom run s r [] = Unit {0}
 PromptFrom run s r (e ∷ events) =
-    (is_moment e ≡ true → is_prompt s r ≡ true) × PromptFrom run (happens s e) (next run s r e) events
+    (is_moment e ≡ true → is_prompt s r ≡ true) × PromptFrom run (happens s e) (replay_step run s r e) events
 
 abbrev pub IsPrompt : Run → ℕ → Bool → List Event → Type 0
 IsPrompt run room fold story = PromptFrom run (start room fold story) (at_first room fold story) story

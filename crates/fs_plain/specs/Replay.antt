@@ -2,6 +2,7 @@
 use Rattle.std.specs.Prelude.{ℕ, ◌+◌, ◌==◌, Bool, not, ◌&&◌, ◌||◌, if◌then◌else◌, List, [], ◌∷◌, filter, Option, Some, None}
 use Rattle.smb_base.specs.declared.names.Mid.{Mid}
 use Rattle.smb_le.specs.Numbers.{number_at}
+use Rattle.smb_head.specs.declared.command.TheConstants.{NEGOTIATE}
 use Rattle.smb_head.specs.declared.head.Head.{Head}
 use Rattle.smb_head.specs.declared.head.HeadFault.{HeadFault}
 use Rattle.smb_head.specs.Header.{head_of}
@@ -19,7 +20,7 @@ use Rattle.smb_link.specs.declared.event.Event.{Event}
 use Rattle.smb_link.specs.declared.event.Event.TheVariants as event
 use Rattle.smb_link.specs.declared.mark.Mark.TheVariants as mark
 use Rattle.smb_link.specs.Locals.{no_locals}
-use Rattle.smb_link.specs.Program.{Facts, Known, Program}
+use Rattle.smb_link.specs.Program.{ServerFacts, Known, Program}
 
 -- a run: its options and its seed, and the status with which it ended
 pub record Run : Type 0 where
@@ -110,10 +111,10 @@ owner_of mid [] = None
 owner_of mid (o ∷ os) = if o.mid.0 == mid.0 then Some o else owner_of mid os
 
 -- what a NEGOTIATE reply of success says of the server (MS-SMB2 2.2.4): capabilities at 88, the greatest sizes at 92, 96 and 100
-abbrev pub facts_with : Result Head HeadFault → List ℕ → Facts → Facts
+abbrev pub facts_with : Result Head HeadFault → List ℕ → ServerFacts → ServerFacts
 facts_with (Err fault) message facts = facts
 facts_with (Ok head) message facts =
-    if has head.flags.0 1 && head.command == 0 && head.status.0 == 0
+    if has head.flags.0 1 && head.command == NEGOTIATE && head.status.0 == 0
     then record {
       capabilities = number_at 4 88 message;
       max_transact = number_at 4 92 message;
@@ -122,7 +123,7 @@ facts_with (Ok head) message facts =
     }
     else facts
 
-abbrev pub facts_after : List (Result (List ℕ) BadNext) → Facts → Facts
+abbrev pub facts_after : List (Result (List ℕ) BadNext) → ServerFacts → ServerFacts
 facts_after [] facts = facts
 facts_after (Err bad ∷ messages) facts = facts_after messages facts
 facts_after (Ok message ∷ messages) facts = facts_after messages (facts_with (head_of message) message facts)
@@ -133,7 +134,7 @@ begins_in [] = 0
 begins_in (event.Marked (mark.Begin number lane call) ∷ events) = 1 + begins_in events
 begins_in (e ∷ events) = begins_in events
 
-abbrev pub no_facts : Facts
+abbrev pub no_facts : ServerFacts
 no_facts = record { capabilities = 0; max_transact = 0; max_read = 0; max_write = 0 }
 
 -- before the first event

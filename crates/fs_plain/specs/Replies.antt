@@ -3,6 +3,7 @@ use Rattle.std.specs.Prelude.{◌≡◌, ℕ, ◌^◌, ◌-◌, ◌+◌, ◌==�
 use Rattle.smb_base.specs.declared.names.Key.{Key}
 use Rattle.smb_base.specs.declared.names.Mid.{Mid}
 use Rattle.smb_le.specs.Numbers.{number_at}
+use Rattle.smb_head.specs.declared.command.TheConstants.{NEGOTIATE, SESSION_SETUP, TREE_CONNECT, CREATE, CLOSE, QUERY_INFO, OPLOCK_BREAK}
 use Rattle.smb_head.specs.declared.head.Head.{Head}
 use Rattle.smb_head.specs.declared.head.HeadFault.{HeadFault}
 use Rattle.smb_head.specs.Header.{head_of}
@@ -75,9 +76,9 @@ info_in message =
 -- the body of a reply of success, by the command of its request
 abbrev pub body_in : ℕ → List ℕ → Option RepBody
 body_in command message =
-    if command == 5 then opened_in message
-    else if command == 6 then closed_in message
-    else if command == 16 then info_in message
+    if command == CREATE then opened_in message
+    else if command == CLOSE then closed_in message
+    else if command == QUERY_INFO then info_in message
     else None
 
 -- a reply of this status, with the body that there is
@@ -89,7 +90,7 @@ reply_of status (Some b) = Some (record { status = record { 0 = status }; body =
 -- (BUFFER_OVERFLOW). Every other status has the error body.
 abbrev pub reply_by_status : ℕ → ℕ → List ℕ → Option Rep
 reply_by_status status command message =
-    if status == 0 || (status == 0x80000005 && command == 16) then reply_of 0 (body_in command message)
+    if status == 0 || (status == 0x80000005 && command == QUERY_INFO) then reply_of 0 (body_in command message)
     else if is_error message then reply_of status (Some body.None)
     else None
 
@@ -114,15 +115,15 @@ is_interim_of mid request message = interim_with (head_of message) mid request m
 -- (2.2.6) with its token, TREE_CONNECT (2.2.10), or none
 abbrev pub has_aside_body : ℕ → List ℕ → Bool
 has_aside_body command message =
-    if command == 0 then has_body 65 message && lies 65 (number_at 2 120 message) (number_at 2 122 message) message
-    else if command == 1 then has_body 9 message && lies 9 (number_at 2 68 message) (number_at 2 70 message) message
-    else if command == 3 then has_body 16 message
+    if command == NEGOTIATE then has_body 65 message && lies 65 (number_at 2 120 message) (number_at 2 122 message) message
+    else if command == SESSION_SETUP then has_body 9 message && lies 9 (number_at 2 68 message) (number_at 2 70 message) message
+    else if command == TREE_CONNECT then has_body 16 message
     else has_body 4 message
 
 -- a reply to such a request may have any status; SESSION_SETUP has its own body also with MORE_PROCESSING_REQUIRED
 abbrev pub is_aside_by_status : ℕ → ℕ → List ℕ → Bool
 is_aside_by_status status command message =
-    if status == 0 || (status == 0xC0000016 && command == 1) then has_aside_body command message else is_error message
+    if status == 0 || (status == 0xC0000016 && command == SESSION_SETUP) then has_aside_body command message else is_error message
 
 abbrev pub aside_with : Result Head HeadFault → Mid → List ℕ → List ℕ → Bool
 aside_with (Err fault) mid request message = false
@@ -136,7 +137,7 @@ is_aside_reply mid request message = aside_with (head_of message) mid request me
 abbrev pub notice_with : Result Head HeadFault → Key → ℕ → List ℕ → Type 0
 notice_with (Err fault) key state message = ⊥
 notice_with (Ok head) key state message =
-    (head.command ≡ 18) × (head.status.0 ≡ 0) × (head.mid.0 ≡ 2 ^ 64 - 1) × (has head.flags.0 1 ≡ true)
+    (head.command ≡ OPLOCK_BREAK) × (head.status.0 ≡ 0) × (head.mid.0 ≡ 2 ^ 64 - 1) × (has head.flags.0 1 ≡ true)
     × (has_body 44 message ≡ true) × (has (number_at 4 68 message) 1 ≡ true) × (bytes_at 72 16 message ≡ key.0)
     × (bit_and (number_at 4 92 message) 7 ≡ state)
 

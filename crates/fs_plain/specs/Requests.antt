@@ -3,6 +3,7 @@ use Rattle.std.specs.Prelude.{ℕ, ◌+◌, ◌*◌, ◌%◌, ◌==◌, Bool, fa
 use Rattle.smb_base.specs.declared.names.Key.{Key}
 use Rattle.smb_base.specs.declared.names.Fid.{Fid}
 use Rattle.smb_le.specs.Numbers.{number_at}
+use Rattle.smb_head.specs.declared.command.TheConstants.{NEGOTIATE, SESSION_SETUP, LOGOFF, TREE_CONNECT, TREE_DISCONNECT, CREATE, CLOSE, ECHO, QUERY_INFO}
 use Rattle.smb_head.specs.declared.head.Head.{Head}
 use Rattle.smb_head.specs.declared.head.HeadFault.{HeadFault}
 use Rattle.smb_head.specs.Header.{head_of}
@@ -17,13 +18,13 @@ use Rattle.fs_plain.specs.Wire.{has_body, lies, bytes_at, units_in}
 
 -- what is asked: something of the connection itself, as a mount, an ECHO or a leave; or a request to the share, with whether it is
 -- related to the CREATE before it in its frame (MS-SMB2 3.3.5.2.7.2)
-pub data Asked : Type 0 where
-  Aside : Asked
-  Share : Bool → Req → Asked
+pub data WireRequest : Type 0 where
+  Aside : WireRequest
+  Share : Bool → Req → WireRequest
 
 -- a request that the share machine takes
-abbrev pub share_request : Bool → Req → Option Asked
-share_request related request = if is_built request then Some (Asked.Share related request) else None
+abbrev pub share_request : Bool → Req → Option WireRequest
+share_request related request = if is_built request then Some (WireRequest.Share related request) else None
 
 -- the file id at a place: its two halves, 8 bytes each
 abbrev pub fid_at : ℕ → List ℕ → Fid
@@ -35,7 +36,7 @@ wanted_lease lease = (lease.0, bit_and lease.1 7)
 
 -- CREATE (MS-SMB2 2.2.13) with these contexts: access at 88, attributes at 92, share at 96, disposition at 100, options at 104, and
 -- the name, whose place stands at 108 and whose length at 110. A reclaim is another request.
-abbrev pub create_with : Bool → List ℕ → Result ContextSet BodyFault → Option Asked
+abbrev pub create_with : Bool → List ℕ → Result ContextSet BodyFault → Option WireRequest
 create_with related message (Err fault) = None
 create_with related message (Ok set) = if is_some set.reclaim then None else share_request related (req.Create
     (units_in (bytes_at (number_at 2 108 message) (number_at 2 110 message) message)) (number_at 4 88 message) (number_at 4 96 message)
@@ -48,14 +49,14 @@ is_create message =
     && lies 57 (number_at 2 108 message) (number_at 2 110 message) message
     && lies 57 (number_at 4 112 message) (number_at 4 116 message) message
 
-abbrev pub create_asked : Bool → List ℕ → Option Asked
+abbrev pub create_asked : Bool → List ℕ → Option WireRequest
 create_asked related message =
     if is_create message
     then create_with related message (read_of false (bytes_at (number_at 4 112 message) (number_at 4 116 message) message))
     else None
 
 -- CLOSE (MS-SMB2 2.2.15): the file id at 72
-abbrev pub close_asked : Bool → List ℕ → Option Asked
+abbrev pub close_asked : Bool → List ℕ → Option WireRequest
 close_asked related message = if has_body 24 message then share_request related (req.Close (fid_at 72 message)) else None
 
 -- QUERY_INFO (MS-SMB2 2.2.37) for everything that is known of a file (class 18): the info type at 66, the class at 67, the file id
@@ -63,33 +64,33 @@ close_asked related message = if has_body 24 message then share_request related 
 abbrev pub is_query : List ℕ → Bool
 is_query message = has_body 41 message && slice_index message 66 == 1 && slice_index message 67 == 18
 
-abbrev pub query_asked : Bool → List ℕ → Option Asked
+abbrev pub query_asked : Bool → List ℕ → Option WireRequest
 query_asked related message = if is_query message then share_request related (req.Query (fid_at 88 message)) else None
 
 -- the body of a request of the connection itself, by its command: NEGOTIATE (MS-SMB2 2.2.3) with its dialects, SESSION_SETUP (2.2.5)
 -- with its token, TREE_CONNECT (2.2.9) with its path, or LOGOFF, TREE_DISCONNECT and ECHO, which have none
 abbrev pub is_aside : ℕ → List ℕ → Bool
 is_aside command message =
-    if command == 0 then has_body 36 message && nat_le (100 + 2 * number_at 2 66 message) (length message)
-    else if command == 1 then has_body 25 message && lies 25 (number_at 2 76 message) (number_at 2 78 message) message
-    else if command == 3 then has_body 9 message && lies 9 (number_at 2 68 message) (number_at 2 70 message) message
-    else (command == 2 || command == 4 || command == 13) && has_body 4 message
+    if command == NEGOTIATE then has_body 36 message && nat_le (100 + 2 * number_at 2 66 message) (length message)
+    else if command == SESSION_SETUP then has_body 25 message && lies 25 (number_at 2 76 message) (number_at 2 78 message) message
+    else if command == TREE_CONNECT then has_body 9 message && lies 9 (number_at 2 68 message) (number_at 2 70 message) message
+    else (command == LOGOFF || command == TREE_DISCONNECT || command == ECHO) && has_body 4 message
 
 -- what is asked by a message of this command
-abbrev pub by_command : ℕ → Bool → List ℕ → Option Asked
+abbrev pub by_command : ℕ → Bool → List ℕ → Option WireRequest
 by_command command related message =
-    if command == 5 then create_asked related message
-    else if command == 6 then close_asked related message
-    else if command == 16 then query_asked related message
-    else if is_aside command message then Some Asked.Aside
+    if command == CREATE then create_asked related message
+    else if command == CLOSE then close_asked related message
+    else if command == QUERY_INFO then query_asked related message
+    else if is_aside command message then Some WireRequest.Aside
     else None
 
 -- a message with the flag of replies asks for nothing
-abbrev pub asked_with : Result Head HeadFault → List ℕ → Option Asked
+abbrev pub asked_with : Result Head HeadFault → List ℕ → Option WireRequest
 asked_with (Err fault) message = None
 asked_with (Ok head) message =
     if has head.flags.0 1 then None else by_command head.command (has head.flags.0 4) message
 
 -- what a message asks for, if it is a request that the share takes
-unfoldable pub asked : List ℕ → Option Asked
-asked message = asked_with (head_of message) message
+unfoldable pub wire_request : List ℕ → Option WireRequest
+wire_request message = asked_with (head_of message) message

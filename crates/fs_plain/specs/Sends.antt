@@ -1,38 +1,24 @@
 -- What the client may send.
-use Rattle.std.specs.Prelude.{◌≡◌, ◌≤◌, ℕ, zero, suc, true, false, List, [], ◌∷◌, is_none, Option, Some, None, Ok}
+use Rattle.std.specs.Prelude.{◌≡◌, ◌≤◌, ℕ, get_or, true, false, List, [], ◌∷◌, is_none, Option, Some, None, Ok}
 use Rattle.std.specs.List.{AllByRecursion}
 use Rattle.smb_base.specs.declared.names.Fid.{Fid}
 use Rattle.smb_head.specs.Stream.{first_of}
-use Rattle.share_spec.specs.declared.request.Req.{Req}
-use Rattle.share_spec.specs.declared.request.Req.TheVariants as req
 use Rattle.share_spec.specs.Reply.{fid_of}
-use Rattle.smb_link.specs.Program.{File, Own, Named, Wish, Open as Opening, Query, Close, Program, Ask, Look, Say}
-use Rattle.fs_plain.specs.Requests.{Asked, asked}
+use Rattle.smb_link.specs.Program.{File, Own, Named, Program, Ask, Look, Say}
+use Rattle.fs_plain.specs.Requests.{WireRequest, wire_request}
 use Rattle.fs_plain.specs.World.{mid_of, messages_of}
 use Rattle.fs_plain.specs.Replay.{Announced}
-use Rattle.fs_plain.specs.Taken.{wished_attributes}
+use Rattle.fs_plain.specs.Taken.{wish_of}
 use Rattle.fs_plain.specs.View.{Item, Flight, View, item_with, is_number}
 
--- the n-th of these file ids, from 0; that of no open where there is none
-abbrev pub nth_fid : ℕ → List Fid → Fid
-nth_fid n [] = fid_of 0
-nth_fid zero (x ∷ xs) = x
-nth_fid (suc n) (x ∷ xs) = nth_fid n xs
-
--- the file id of a file of a call
+-- the file id of a file of a call; that of no open where there is none
 abbrev pub fid_of_file : List Fid → File → Fid
-fid_of_file fids (Own n) = nth_fid n fids
+fid_of_file fids (Own n) = get_or fids n (fid_of 0)
 fid_of_file fids Named = fid_of 0
-
--- a request of a call, with the file ids that it got
-abbrev pub wish_of : List Fid → Wish → Req
-wish_of fids (Opening path access disposition options) = req.Create path access 7 disposition options (wished_attributes options) None false
-wish_of fids (Query file) = req.Query (fid_of_file fids file)
-wish_of fids (Close file) = req.Close (fid_of_file fids file)
 
 -- a message is the next request of what is left of a call
 abbrev pub IsWish : Program → List Fid → List ℕ → Type 0
-IsWish (Ask wish rest) fids message = asked message ≡ Some (Asked.Share false (wish_of fids wish))
+IsWish (Ask wish rest) fids message = wire_request message ≡ Some (WireRequest.Share false (wish_of (fid_of_file fids) wish))
 IsWish (Look rest) fids message = ⊥
 IsWish (Say answer) fids message = ⊥
 
@@ -42,7 +28,7 @@ MayFlyFor None f = ⊥
 MayFlyFor (Some i) f = IsWish i.rest i.fids f.message
 
 abbrev pub MayFly : Option ℕ → List Item → Flight → Type 0
-MayFly None items f = asked f.message ≡ Some Asked.Aside
+MayFly None items f = wire_request f.message ≡ Some WireRequest.Aside
 MayFly (Some n) items f = MayFlyFor (item_with n items) f
 
 -- its call has no request in flight
@@ -61,6 +47,6 @@ pub record MaySend (v : View) (f : Flight) (frame : List ℕ) : Type 0 where
   pub announced : IsAnnounced v.announced f
   pub idle : AllByRecursion (IsIdle f) v.items
   pub asks : MayFly f.owner v.items f
-  pub known : is_none (asked f.message) ≡ false
+  pub known : is_none (wire_request f.message) ≡ false
   pub mid : mid_of f.message ≡ f.mid
   pub alone : messages_of (first_of frame) ≡ Ok f.message ∷ []

@@ -1,7 +1,8 @@
 -- A request that the real share took, done on the plain share.
-use Rattle.std.specs.Prelude.{ℕ, zero, suc, ◌==◌, Bool, true, false, not, ◌&&◌, ◌||◌, if◌then◌else◌, List, [], ◌∷◌, ◌++◌, length, Option, Some, None, is_some}
+use Rattle.std.specs.Prelude.{ℕ, zero, suc, get_or, ◌==◌, Bool, true, false, not, ◌&&◌, ◌||◌, if◌then◌else◌, List, [], ◌∷◌, ◌++◌, length, Option, Some, None, is_some}
 use Rattle.std.specs.List.{list_any}
 use Rattle.std.specs.Str.{bytes_eq}
+use Rattle.smb_base.specs.declared.names.Fid.{Fid}
 use Rattle.smb_base.specs.declared.names.Mid.{Mid}
 use Rattle.share_spec.specs.declared.connection.Sent.{Sent}
 use Rattle.share_spec.specs.declared.opens.Open.{Open}
@@ -14,31 +15,29 @@ use Rattle.share_spec.specs.Reply.{fid_of}
 use Rattle.share_spec.specs.Close.{open_of}
 use Rattle.share_spec.specs.PlainShare.{plain_step, shown}
 use Rattle.smb_link.specs.Program.{File, Own, Named, Wish, Open as Opening, Query, Close, Program, Known, Ask, Look, Say, settled}
-use Rattle.fs_plain.specs.Requests.{Asked, asked}
+use Rattle.fs_plain.specs.Requests.{WireRequest, wire_request}
 use Rattle.fs_plain.specs.World.{us, sent_with, resolved, refused_before, done_of, choice_now}
 use Rattle.fs_plain.specs.Replay.{Running, Owner, Replay, plain_of, opened_number, new_pair, running_with, with_running, owner_of}
 
--- the n-th of these, from 0; 0 where there is none
-abbrev pub nth : ℕ → List ℕ → ℕ
-nth n [] = 0
-nth zero (x ∷ xs) = x
-nth (suc n) (x ∷ xs) = nth n xs
-
 -- the plain open of a file of a call; 0 is none
 abbrev pub plain_file : List ℕ → File → ℕ
-plain_file opened (Own n) = nth n opened
+plain_file opened (Own n) = get_or opened n 0
 plain_file opened Named = 0
 
 -- the attributes of a CREATE: none for a directory, else NORMAL
 abbrev pub wished_attributes : ℕ → ℕ
 wished_attributes options = if has options 1 then 0 else 0x80
 
--- a request of a call to the plain share
-abbrev pub plain_wish : List ℕ → Wish → Req
-plain_wish opened (Opening path access disposition options) =
+-- the file id of it on the plain share
+abbrev pub plain_fid : List ℕ → File → Fid
+plain_fid opened file = fid_of (plain_file opened file)
+
+-- a request of a call, with the file ids of its files
+abbrev pub wish_of : (File → Fid) → Wish → Req
+wish_of fid (Opening path access disposition options) =
     req.Create path access 7 disposition options (wished_attributes options) None false
-plain_wish opened (Query file) = req.Query (fid_of (plain_file opened file))
-plain_wish opened (Close file) = req.Close (fid_of (plain_file opened file))
+wish_of fid (Query file) = req.Query (fid file)
+wish_of fid (Close file) = req.Close (fid file)
 
 -- a request to the real share is the one of the call, apart from the file id, the lease and the durable wish
 abbrev pub is_wished : Wish → Req → Bool
@@ -63,7 +62,7 @@ after_wish_done r c rest done real = record r {
 
 abbrev pub after_next : Replay → Running → Program → Rep → Replay
 after_next r c (Ask wish rest) real =
-    after_wish_done r c rest (plain_step r.plain us (plain_wish c.opened wish)) real
+    after_wish_done r c rest (plain_step r.plain us (wish_of (plain_fid c.opened) wish)) real
 after_next r c (Look rest) real = r
 after_next r c (Say answer) real = r
 
@@ -92,9 +91,9 @@ abbrev pub ended_open : Option Open → Replay → ℕ
 ended_open None r = 0
 ended_open (Some o) r = standing r.plain.opens (plain_of r.pairs o.number)
 
-abbrev pub ended_by : Share → Replay → Req → ℕ
-ended_by s r (req.Close fid) = ended_open (open_of s.opens us fid) r
-ended_by s r other = 0
+abbrev pub plain_open_ended : Share → Replay → Req → ℕ
+plain_open_ended s r (req.Close fid) = ended_open (open_of s.opens us fid) r
+plain_open_ended s r other = 0
 
 -- such a Close is right where no call runs and none is to begin
 abbrev pub is_over : Replay → Bool
@@ -111,36 +110,36 @@ is_right_unowned r ended = ended == 0 || is_over r
 
 -- the replay once a request to the share is taken, which has this reply there
 abbrev pub after_request : Share → Replay → Option Owner → Bool → Req → Rep → Replay
-after_request s r None refused request real = after_unowned r (ended_by s r request)
+after_request s r None refused request real = after_unowned r (plain_open_ended s r request)
 after_request s r (Some o) refused request real = after_owned r (running_with o.number r.running) o.known refused real
 
 abbrev pub is_right_request : Share → Replay → Option Owner → Bool → Req → Bool
-is_right_request s r None refused request = is_right_unowned r (ended_by s r request)
+is_right_request s r None refused request = is_right_unowned r (plain_open_ended s r request)
 is_right_request s r (Some o) refused request = is_right_owned (running_with o.number r.running) o.known refused request
 
 -- the replay once what a waiting message asks for is taken
-abbrev pub after_asked : Share → Replay → Sent → Option Asked → Replay
+abbrev pub after_asked : Share → Replay → Sent → Option WireRequest → Replay
 after_asked s r x None = r
-after_asked s r x (Some Asked.Aside) = r
-after_asked s r x (Some (Asked.Share related request)) =
+after_asked s r x (Some WireRequest.Aside) = r
+after_asked s r x (Some (WireRequest.Share related request)) =
     after_request s r (owner_of x.mid r.owners) (is_some (refused_before related x.last_create request))
     (resolved related x.last_create request) (done_of (choice_now s.grants) s related x.last_create request).0
 
 -- a request of the connection itself belongs to no call
-abbrev pub is_right_asked : Share → Replay → Sent → Option Asked → Bool
+abbrev pub is_right_asked : Share → Replay → Sent → Option WireRequest → Bool
 is_right_asked s r x None = true
-is_right_asked s r x (Some Asked.Aside) = not (is_some (owner_of x.mid r.owners))
-is_right_asked s r x (Some (Asked.Share related request)) =
+is_right_asked s r x (Some WireRequest.Aside) = not (is_some (owner_of x.mid r.owners))
+is_right_asked s r x (Some (WireRequest.Share related request)) =
     is_right_request s r (owner_of x.mid r.owners) (is_some (refused_before related x.last_create request))
     (resolved related x.last_create request)
 
 abbrev pub after_sent_taken : Share → Replay → Option Sent → Replay
 after_sent_taken s r None = r
-after_sent_taken s r (Some x) = after_asked s r x (asked x.message)
+after_sent_taken s r (Some x) = after_asked s r x (wire_request x.message)
 
 abbrev pub is_right_sent : Share → Replay → Option Sent → Bool
 is_right_sent s r None = true
-is_right_sent s r (Some x) = is_right_asked s r x (asked x.message)
+is_right_sent s r (Some x) = is_right_asked s r x (wire_request x.message)
 
 -- the replay once the request with an id is taken, and whether that is right
 abbrev pub after_taken : Share → Replay → Mid → Replay

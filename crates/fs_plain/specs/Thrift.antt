@@ -12,7 +12,7 @@ use Rattle.smb_link.specs.declared.mark.Mark.TheVariants as mark
 use Rattle.fs_plain.specs.World.{messages_of, messages_got, happens}
 use Rattle.fs_plain.specs.Honest.{start}
 use Rattle.fs_plain.specs.Replay.{Run, Running, Replay, running_with, at_first}
-use Rattle.fs_plain.specs.Differences.{next}
+use Rattle.fs_plain.specs.Differences.{replay_step}
 
 -- the message ids that a frame uses up (MS-SMB2 3.2.4.1.5): each message its charge, and one at least
 abbrev pub ids_used : List (Result (List ℕ) BadNext) → ℕ
@@ -51,7 +51,7 @@ is_thrifty run r usable e = true
 abbrev pub ThriftyFrom : Run → Share → Replay → ℕ → List Event → Type 0
 ThriftyFrom run s r usable [] = Unit {0}
 ThriftyFrom run s r usable (e ∷ events) =
-    (is_thrifty run r usable e ≡ true) × ThriftyFrom run (happens s e) (next run s r e) (usable_after s usable e) events
+    (is_thrifty run r usable e ≡ true) × ThriftyFrom run (happens s e) (replay_step run s r e) (usable_after s usable e) events
 
 abbrev pub IsThrifty : Run → ℕ → Bool → List Event → Type 0
 IsThrifty run room fold story = ThriftyFrom run (start room fold story) (at_first room fold story) 0 story

@@ -1,11 +1,10 @@
 -- Opens that a running call made and is going to close.
-use Rattle.std.specs.Prelude.{◌≡◌, ◌<◌, ◌⊎◌, ℕ, ◌+◌, ◌==◌, Bool, true, false, List, [], ◌∷◌, length}
+use Rattle.std.specs.Prelude.{◌≡◌, ◌<◌, ◌⊎◌, ℕ, get_or, ◌+◌, ◌==◌, Bool, true, false, List, [], ◌∷◌, length}
 use Rattle.std.specs.List.{AllByRecursion}
 use Rattle.share_spec.specs.declared.opens.Open.{Open}
 use Rattle.share_spec.specs.declared.request.Rep.{Rep}
 use Rattle.smb_link.specs.Program.{Own, Wish, Open as Opening, Close, Known, Program, Ask, Look, Say}
 use Rattle.fs_plain.specs.Replay.{Running}
-use Rattle.fs_plain.specs.Taken.{nth}
 
 -- a request closes the n-th open of its call, from 0
 abbrev pub closes : ℕ → Wish → Bool
@@ -34,7 +33,7 @@ IsTidy c = Tidies (length c.opened) c.rest
 
 -- a call made this open, and will close it
 abbrev pub Closes : Open → Running → Type 0
-Closes o c = (n : ℕ) × (n < length c.opened) × (nth n c.opened ≡ o.number) × WillClose n c.rest
+Closes o c = (n : ℕ) × (n < length c.opened) × (get_or c.opened n 0 ≡ o.number) × WillClose n c.rest
 
 -- one of these calls did, and will
 abbrev pub SomeCloses : Open → List Running → Type 0

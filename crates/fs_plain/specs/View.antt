@@ -14,9 +14,9 @@ use Rattle.share_spec.specs.declared.request.RepBody.TheVariants as body
 use Rattle.share_spec.specs.Reply.{fid_of}
 use Rattle.share_spec.specs.PlainShare.{shown}
 use Rattle.smb_link.specs.Program.{Program, Ask, Look, Say}
-use Rattle.fs_plain.specs.Requests.{Asked, asked}
+use Rattle.fs_plain.specs.Requests.{WireRequest, wire_request}
 use Rattle.fs_plain.specs.Replay.{Running, Announced, Owner, owner_of}
-use Rattle.fs_plain.specs.Taken.{plain_wish, with_opened}
+use Rattle.fs_plain.specs.Taken.{plain_fid, wish_of, with_opened}
 
 -- a call that was begun and not answered: its line, its lane, what it is, whether a frame was announced for it, what is left of its
 -- program by the replies that were looked at, the opens that it made, their file ids as these replies gave them, and its request in
@@ -156,7 +156,7 @@ IsOwned owners f = is_owned_by f.owner (owner_of f.mid owners)
 
 -- what is left of a call is this request first, which is the one in flight
 abbrev pub IsNext : Program → List ℕ → List ℕ → Type 0
-IsNext (Ask wish rest) opened message = asked message ≡ Some (Asked.Share false (plain_wish opened wish))
+IsNext (Ask wish rest) opened message = wire_request message ≡ Some (WireRequest.Share false (wish_of (plain_fid opened) wish))
 IsNext (Look rest) opened message = ⊥
 IsNext (Say answer) opened message = ⊥
 
@@ -166,7 +166,7 @@ IsItems (Some i) f = (i.flying ≡ Some f.mid) × IsNext i.rest i.opened f.messa
 
 -- a flight is its call's request in flight, or asks for something of the connection itself
 abbrev pub BelongsTo : Option ℕ → List Item → Flight → Type 0
-BelongsTo None items f = asked f.message ≡ Some Asked.Aside
+BelongsTo None items f = wire_request f.message ≡ Some WireRequest.Aside
 BelongsTo (Some number) items f = IsItems (item_with number items) f
 
 abbrev pub Belongs : List Item → Flight → Type 0

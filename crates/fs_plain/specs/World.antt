@@ -24,13 +24,14 @@ use Rattle.share_spec.specs.declared.request.Rep.{Rep}
 use Rattle.share_spec.specs.declared.request.RepBody.{RepBody}
 use Rattle.share_spec.specs.declared.request.RepBody.TheVariants as body
 use Rattle.share_spec.specs.declared.share.Share.{Share}
-use Rattle.share_spec.specs.Reply.{of_status}
+use Rattle.share_spec.specs.Reply.{of_status, map_fid}
 use Rattle.share_spec.specs.Step.{step_of}
 use Rattle.share_spec.specs.Close.{is_key_of}
 use Rattle.share_spec.specs.Cut.{after_cut, after_join, after_drop}
+use Rattle.share_spec.specs.Sent.{behind_create, sent_but}
 use Rattle.smb_link.specs.declared.event.Event.{Event}
 use Rattle.smb_link.specs.declared.event.Event.TheVariants as event
-use Rattle.fs_plain.specs.Requests.{Asked, asked}
+use Rattle.fs_plain.specs.Requests.{WireRequest, wire_request}
 
 -- the client that is proved
 abbrev pub us : Who
@@ -56,7 +57,7 @@ abbrev pub requests_among : Mid → List (Result (List ℕ) BadNext) → List Se
 requests_among frame [] = []
 requests_among frame (Err bad ∷ parts) = requests_among frame parts
 requests_among frame (Ok message ∷ parts) =
-    if is_none (asked message) then requests_among frame parts else waiting frame message ∷ requests_among frame parts
+    if is_none (wire_request message) then requests_among frame parts else waiting frame message ∷ requests_among frame parts
 
 -- the id of the first message of a frame
 abbrev pub first_mid : List (Result (List ℕ) BadNext) → Mid
@@ -81,20 +82,10 @@ abbrev pub is_first_of_frame : List Sent → Sent → Bool
 is_first_of_frame [] x = false
 is_first_of_frame (y ∷ ys) x = if y.frame.0 == x.frame.0 then y.mid.0 == x.mid.0 else is_first_of_frame ys x
 
--- the requests but the one with an id
-abbrev pub sent_but : Mid → List Sent → List Sent
-sent_but mid sent = filter (λ x. not (x.mid.0 == mid.0)) sent
-
--- a request with this file id in place of its own; a CREATE has none
-abbrev pub with_fid : Fid → Req → Req
-with_fid fid (req.Close old) = req.Close fid
-with_fid fid (req.Query old) = req.Query fid
-with_fid fid r = r
-
 -- a related request goes by the last CREATE before it in its frame: it takes that one's open, and where that was refused it is
 -- refused with the same status (MS-SMB2 3.3.5.2.7.2)
 abbrev pub followed : LastCreate → Req → Req
-followed (last.Opened fid) r = with_fid fid r
+followed (last.Opened fid) r = map_fid (λ own. fid) r
 followed other r = r
 
 abbrev pub is_creating : Req → Bool
@@ -128,12 +119,9 @@ abbrev pub came_to : Rep → RepBody → LastCreate
 came_to reply (body.Opened fid action size attributes lease durable) = last.Opened fid
 came_to reply other = last.Refused reply.status
 
--- a request that waits behind a CREATE of its frame, which had this reply
-abbrev pub behind_create : Mid → Rep → Sent → Sent
-behind_create frame reply x = if x.frame.0 == frame.0 then record x { last_create = came_to reply reply.body } else x
-
+-- the requests that wait, once one was taken that had this reply: those behind a CREATE of their frame know what it came to
 abbrev pub after_create : Req → Mid → Rep → List Sent → List Sent
-after_create r frame reply sent = if is_creating r then map (behind_create frame reply) sent else sent
+after_create r frame reply sent = if is_creating r then map (behind_create frame (came_to reply reply.body)) sent else sent
 
 -- the choices but the first
 abbrev pub choices_left : List (Option Grant) → List (Option Grant)
@@ -161,14 +149,14 @@ after_aside x s = record s {
   grants = choices_left s.grants;
 }
 
-abbrev pub after_taking : Option Asked → Sent → Share → Share
+abbrev pub after_taking : Option WireRequest → Sent → Share → Share
 after_taking None x s = s
-after_taking (Some Asked.Aside) x s = after_aside x s
-after_taking (Some (Asked.Share related r)) x s = after_done x r (done_of (choice_now s.grants) s related x.last_create r)
+after_taking (Some WireRequest.Aside) x s = after_aside x s
+after_taking (Some (WireRequest.Share related r)) x s = after_done x r (done_of (choice_now s.grants) s related x.last_create r)
 
 abbrev pub after_took_of : Option Sent → Share → Share
 after_took_of None s = s
-after_took_of (Some x) s = after_taking (asked x.message) x s
+after_took_of (Some x) s = after_taking (wire_request x.message) x s
 
 -- a request is taken
 abbrev pub after_took : Mid → Share → Share

@@ -4,6 +4,7 @@ use Rattle.std.proofs.Common.{◌≡◌, ◌≢◌, ◌≤◌, ◌⊎◌, ◌==�
 use Rattle.smb_link.specs.Count.{counted, Rose}
 use Rattle.smb_link.specs.declared.event.Event.{Event}
 use Rattle.smb_link.specs.declared.event.Event.TheVariants.{Sent, Got, Quiet, Joined, NotJoined, Cut}
+use Rattle.smb_head.specs.declared.command.TheConstants.{NEGOTIATE}
 use Rattle.smb_head.specs.declared.head.Head.{Head}
 use Rattle.smb_head.specs.declared.head.HeadFault.{HeadFault}
 use Rattle.smb_head.specs.Header.{head_of}
@@ -12,8 +13,8 @@ use Rattle.smb_head.specs.Stream as stream
 use Rattle.smb_chain.specs.Parts.{Step, Only, Then, step_of}
 use Rattle.smb_chain.specs.Parts as parts
 use Rattle.fs_top.specs.declared.ending.Greeting.{Greeting}
-use Rattle.fs_top.specs.declared.ending.Kind.{Kind}
-use Rattle.fs_top.specs.declared.ending.Kind.TheVariants as kind
+use Rattle.fs_top.specs.declared.ending.FirstFrameFault.{FirstFrameFault}
+use Rattle.fs_top.specs.declared.ending.FirstFrameFault.TheVariants as kind
 use Rattle.fs_top.specs.declared.ending.Ending.{Ending}
 use Rattle.fs_top.specs.declared.ending.Ending.TheVariants as ending
 use Rattle.smb_link.specs.Came.{Seen, Came, counted_all, is_refusal, is_cut, is_silence}
@@ -116,15 +117,15 @@ refusal_kept : (part : List ℕ) (rest : Option (List ℕ)) (e : Ending) → Ref
 refusal_kept part rest e (inl x) = rw x.2 (unless_more-kept rest (ending.Dialect 0) (λ is. omega arith))
 refusal_kept part rest e (inr none) = rw none.1 (λ is. omega arith)
 
-frame_kept : (k : Kind) (e : Ending) → e ≡ ending.Frame k → status_of e ≢ 6
+frame_kept : (k : FirstFrameFault) (e : Ending) → e ≡ ending.Frame k → status_of e ≢ 6
 frame_kept k e is = rw is (λ six. omega arith)
 
 reply_kept : (head : Head) (part : List ℕ) (rest : Option (List ℕ)) (e : Ending) → ReplyEnds head part rest e → status_of e ≢ 6
 reply_kept head part rest e =
     of_either (head.mid.0 == 0)
-    (MatchBool (head.command == 0 && is_reply head) (MatchBool (head.status.0 == 0) (GreetingEnds part rest e) (RefusalEnds part rest e)) (e ≡ ending.Frame kind.Body))
+    (MatchBool (head.command == NEGOTIATE && is_reply head) (MatchBool (head.status.0 == 0) (GreetingEnds part rest e) (RefusalEnds part rest e)) (e ≡ ending.Frame kind.Body))
     (e ≡ ending.Frame kind.Stranger) (status_of e ≢ 6)
-    (of_either (head.command == 0 && is_reply head) (MatchBool (head.status.0 == 0) (GreetingEnds part rest e) (RefusalEnds part rest e)) (e ≡ ending.Frame kind.Body) (status_of e ≢ 6)
+    (of_either (head.command == NEGOTIATE && is_reply head) (MatchBool (head.status.0 == 0) (GreetingEnds part rest e) (RefusalEnds part rest e)) (e ≡ ending.Frame kind.Body) (status_of e ≢ 6)
     (of_either (head.status.0 == 0) (GreetingEnds part rest e) (RefusalEnds part rest e) (status_of e ≢ 6) (greeting_kept part rest e) (refusal_kept part rest e))
     (frame_kept kind.Body e))
     (frame_kept kind.Stranger e)

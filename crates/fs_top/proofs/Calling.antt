@@ -1,5 +1,5 @@
 -- The requests of a call, one after the other.
-use Rattle.std.proofs.Common.{rules, ◌≡◌, ◌∙◌, refl, sym, ap, subst, ℕ, ◌+◌, ◌-◌, ◌^◌, ◌<◌, ◌==◌, Bool, true, false, if◌then◌else◌, List, [], ◌∷◌, Option, Some, Result, Ok, Err}
+use Rattle.std.proofs.Common.{rules, ◌≡◌, ◌∙◌, refl, sym, ap, subst, ℕ, ◌+◌, ◌-◌, ◌^◌, ◌<◌, ◌==◌, Bool, true, false, if◌then◌else◌, List, [], ◌∷◌, Option, Some, Result, Ok, Err, get_or}
 use Rattle.smb_base.specs.declared.names.Fid.{Fid}
 use Rattle.smb_base.specs.declared.names.Mid.{Mid}
 use Rattle.share_spec.specs.declared.request.Rep.{Rep}
@@ -7,6 +7,7 @@ use Rattle.share_spec.specs.declared.request.RepBody.{RepBody}
 use Rattle.share_spec.specs.declared.request.RepBody.TheVariants as body
 use Rattle.share_spec.specs.declared.request.Req.TheVariants as req
 use Rattle.share_spec.specs.PlainShare.{shown}
+use Rattle.share_spec.specs.Reply.{fid_of}
 use Rattle.fs_types.specs.declared.answer.Answer.{Answer}
 use Rattle.fs_types.specs.declared.options.Options.{Options}
 use Rattle.smb_link.specs.declared.event.Event.{Event}
@@ -14,15 +15,16 @@ use Rattle.smb_names.specs.declared.fault.NameFault.{NameFault}
 use Rattle.smb_names.specs.declared.fault.NameFault.TheVariants as fault
 use Rattle.smb_link.specs.Program.{Own, Wish, Open, Query, Close, Program, Ask, Say, of_refusal, of_errno, number_of_fault}
 use Rattle.smb_link.specs.Stat.{stat_once_open, stat_answer}
-use Rattle.fs_plain.specs.Requests.{Asked, asked}
+use Rattle.fs_plain.specs.Requests.{WireRequest, wire_request}
 use Rattle.fs_plain.specs.Replies.{command_of}
 use Rattle.fs_plain.specs.World.{mid_of}
 use Rattle.fs_plain.specs.View.{Item, Flight, View, rest_after, fids_with, fids_after}
-use Rattle.fs_plain.specs.Sends.{nth_fid, wish_of, IsWish}
+use Rattle.fs_plain.specs.Sends.{fid_of_file, IsWish}
 use Rattle.fs_plain.specs.Moves.{Leads, Leaves}
 use Rattle.fs_plain.proofs.Leading.{leads_nowhere, leads_then}
 use Rattle.fs_plain.proofs.Leaving.{leaves_now, leads_then_leaves}
-use Rattle.fs_core.specs.declared.part.Kind.TheVariants as kind
+use Rattle.fs_plain.specs.Taken.{wish_of}
+use Rattle.fs_core.specs.declared.reply_kind.ReplyFault.TheVariants as kind
 use Rattle.fs_core.specs.declared.wire.Stop.{Stop}
 use Rattle.fs_core.specs.declared.wire.Stop.TheVariants as stop
 use Rattle.fs_core.specs.Foul.{foul_stop}
@@ -138,14 +140,14 @@ pub answers_break : (P : Item → Type 0) (number before : ℕ) (mid : Mid) (mes
 answers_break P number before mid message foul old new is next leaves seed begun i p may =
     subst (λ (n : ℕ). Leaves run_options seed (resting (i ∷ []) begun n) foul old new) (sym is) (leaves run_options seed begun i (requests P number mid message begun i next p may))
 
-wish_at : (rest : Program) (wish : Wish) (k : Rep → Program) (fids : List Fid) (message : List ℕ) → rest ≡ Ask wish k → asked message ≡ Some (Asked.Share false (wish_of fids wish)) → IsWish rest fids message
+wish_at : (rest : Program) (wish : Wish) (k : Rep → Program) (fids : List Fid) (message : List ℕ) → rest ≡ Ask wish k → wire_request message ≡ Some (WireRequest.Share false (wish_of (fid_of_file fids) wish)) → IsWish rest fids message
 wish_at rest wish k fids message is asks = subst (λ (p : Program). IsWish p fids message) (sym is) asks
 
 rest_at : (rest : Program) (wish : Wish) (k : Rep → Program) (reply : Rep) → rest ≡ Ask wish k → rest_after (Some reply) rest ≡ k (shown reply)
 rest_at rest wish k reply is = ap (λ (p : Program). rest_after (Some reply) p) is
 
 -- the CREATE
-pub create_next : (wire : List ℕ) (mid : Mid) (message : List ℕ) → asked message ≡ Some (Asked.Share false (wish_of [] (Open wire 0x100080 1 0))) → mid_of message ≡ mid
+pub create_next : (wire : List ℕ) (mid : Mid) (message : List ℕ) → wire_request message ≡ Some (WireRequest.Share false (wish_of (fid_of_file []) (Open wire 0x100080 1 0))) → mid_of message ≡ mid
     → IsNextOf (IsStatThere wire) mid message
 create_next wire mid message asks is = record {
   wish = λ i p. subst (λ (l : List Fid). IsWish i.rest l message) (sym p.1) (wish_at i.rest (Open wire 0x100080 1 0) (stat_once_open run_options) [] message p.0 asks);
@@ -163,7 +165,7 @@ pub opened_refused : (opened : Rep) (i : Item) → (opened.status.0 == 0) ≡ fa
 opened_refused opened i is p = p.0 ∙ ap (λ (t : Bool). if t then Ask (Query (Own 0)) (λ info. Ask (Close (Own 0)) (λ closed. Say (stat_answer run_options info))) else Say (of_refusal opened.status)) is
 
 -- a further open does not come before the first
-first_stays : (b : RepBody) (fids : List Fid) (fid : Fid) → nth_fid 0 fids ≡ fid → (fids ≡ [] → ⊥) → nth_fid 0 (fids_with b fids) ≡ fid
+first_stays : (b : RepBody) (fids : List Fid) (fid : Fid) → get_or fids 0 (fid_of 0) ≡ fid → (fids ≡ [] → ⊥) → get_or (fids_with b fids) 0 (fid_of 0) ≡ fid
 first_stays b [] fid is some = absurd (some refl)
 first_stays (body.Opened f action size attributes lease durable) (x ∷ xs) fid is some = is
 first_stays body.None (x ∷ xs) fid is some = is
@@ -185,18 +187,18 @@ pub opened_open : (opened : Rep) (fid : Fid) (action size attributes lease : ℕ
 opened_open opened fid action size attributes lease durable i is gives p = (
   p.0 ∙ ap (λ (t : Bool). if t then Ask (Query (Own 0)) (λ info. Ask (Close (Own 0)) (λ closed. Say (stat_answer run_options info))) else Say (of_refusal opened.status)) is,
   (
-    ap (λ (l : List Fid). nth_fid 0 l) p.1 ∙ ap (λ (b : RepBody). nth_fid 0 (fids_with b [])) gives,
-    λ reply. ap (λ (l : List Fid). nth_fid 0 (fids_after reply l)) p.1
-        ∙ ap (λ (b : RepBody). nth_fid 0 (fids_after reply (fids_with b []))) gives
+    ap (λ (l : List Fid). get_or l 0 (fid_of 0)) p.1 ∙ ap (λ (b : RepBody). get_or (fids_with b []) 0 (fid_of 0)) gives,
+    λ reply. ap (λ (l : List Fid). get_or (fids_after reply l) 0 (fid_of 0)) p.1
+        ∙ ap (λ (b : RepBody). get_or (fids_after reply (fids_with b [])) 0 (fid_of 0)) gives
         ∙ first_stays reply.body (fid ∷ []) fid refl (nth_not_empty (fid ∷ []) fid fid [] refl),
   ),
 )
 
 -- the QUERY_INFO
-pub query_next : (fid : Fid) (mid : Mid) (message : List ℕ) → asked message ≡ Some (Asked.Share false (req.Query fid)) → mid_of message ≡ mid → IsNextOf (IsStatOpen fid) mid message
+pub query_next : (fid : Fid) (mid : Mid) (message : List ℕ) → wire_request message ≡ Some (WireRequest.Share false (req.Query fid)) → mid_of message ≡ mid → IsNextOf (IsStatOpen fid) mid message
 query_next fid mid message asks is = record {
   wish = λ i p. wish_at i.rest (Query (Own 0)) (λ info. Ask (Close (Own 0)) (λ closed. Say (stat_answer run_options info))) i.fids message p.0
-      (asks ∙ ap (λ (f : Fid). Some (Asked.Share false (req.Query f))) (sym p.1.0));
+      (asks ∙ ap (λ (f : Fid). Some (WireRequest.Share false (req.Query f))) (sym p.1.0));
   mid_is = is;
 }
 
@@ -208,10 +210,10 @@ query_lands fid mid info i p = (
 )
 
 -- the CLOSE
-pub close_next : (fid : Fid) (info : Rep) (mid : Mid) (message : List ℕ) → asked message ≡ Some (Asked.Share false (req.Close fid)) → mid_of message ≡ mid → IsNextOf (IsStatKnown fid info) mid message
+pub close_next : (fid : Fid) (info : Rep) (mid : Mid) (message : List ℕ) → wire_request message ≡ Some (WireRequest.Share false (req.Close fid)) → mid_of message ≡ mid → IsNextOf (IsStatKnown fid info) mid message
 close_next fid info mid message asks is = record {
   wish = λ i p. wish_at i.rest (Close (Own 0)) (λ closed. Say (stat_answer run_options (shown info))) i.fids message p.0
-      (asks ∙ ap (λ (f : Fid). Some (Asked.Share false (req.Close f))) (sym p.1));
+      (asks ∙ ap (λ (f : Fid). Some (WireRequest.Share false (req.Close f))) (sym p.1));
   mid_is = is;
 }
 

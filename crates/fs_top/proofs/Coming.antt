@@ -19,11 +19,11 @@ use Rattle.fs_script.specs.declared.line.Line.TheVariants as said
 use Rattle.fs_script.specs.Lines.{longest, is_skip, is_path, is_path_byte, words_of, fault_of, IsLine}
 use Rattle.fs_script.proofs.Words.{path_word}
 use Rattle.fs_script.proofs.Faults.{line_has_none}
-use Rattle.fs_top.specs.declared.ahead.Found.{Found}
-use Rattle.fs_top.specs.declared.ahead.Found.TheVariants as found
+use Rattle.fs_top.specs.declared.ahead.CallOrOver.{CallOrOver}
+use Rattle.fs_top.specs.declared.ahead.CallOrOver.TheVariants as found
 use Rattle.fs_top.specs.declared.ahead.Over as overs
 use Rattle.fs_top.specs.declared.ahead.Over.TheVariants as over
-use Rattle.fs_top.specs.Script.{lines_of, Wanted, Nothing, Stat, Refused, wanted_unless, wanted_by, wanted_at, greatest, calls_then, over_then, calls_from, over_from, Coming, coming_behind, coming_from, coming_ahead, held_then, unless_over, lines_to_come, brought, LineBrings, is_source_line, is_source_by}
+use Rattle.fs_top.specs.Script.{lines_of, LineWants, Nothing, Stat, Refused, wanted_unless, wanted_by, wanted_at, greatest, calls_then, over_then, calls_from, over_from, Coming, coming_behind, coming_from, coming_ahead, held_then, unless_over, lines_to_come, brought, LineBrings, is_source_line, is_source_by}
 
 first_at : (is : Bool) (b : ℕ) (bs : List ℕ) → (0 < length bs → lines_of bs ≡ first_line bs ∷ lines_of (behind bs))
     → cond is ([] ∷ lines_of bs) (onto_first b (lines_of bs)) ≡ cond is [] (b ∷ first_line bs) ∷ lines_of (cond is bs (behind bs))
@@ -37,12 +37,12 @@ first_of_lines [] some = absurd (omega arith)
 first_of_lines (b ∷ bs) some = first_at (b == 10) b bs (λ more. first_of_lines bs more)
 
 -- what is to come of a line, and of the lines behind it
-abbrev pub line_then : Option Found → Coming → Coming
+abbrev pub line_then : Option CallOrOver → Coming → Coming
 line_then None later = later
 line_then (Some (found.Call asked)) later = held_then (Some asked) later
 line_then (Some (found.Over why)) later = unless_over (Some why) later
 
-wanted_comes : (w : Wanted) (n : ℕ) (lines : List (List ℕ))
+wanted_comes : (w : LineWants) (n : ℕ) (lines : List (List ℕ))
     → record { calls = calls_then w n (calls_from (n + 1) lines); over = over_then w n (over_from (n + 1) lines) } ≡ line_then (brought w n) (coming_from (n + 1) lines)
 wanted_comes Nothing n lines = refl
 wanted_comes (Stat path) n lines = refl
@@ -75,7 +75,7 @@ stopped : (n : ℕ) (bytes : List ℕ) → n < greatest → 0 < length bytes →
     → coming_behind n (lines_of bytes) ≡ record { calls = []; over = over.Line (n + 1) }
 stopped n bytes small some is =
     given n (first_line bytes) bytes (behind bytes) small some refl refl
-    ∙ ap (λ (w : Wanted). line_then (brought w (n + 1)) (coming_behind (n + 1) (lines_of (behind bytes)))) (by (nat_lt (n + 1) greatest))
+    ∙ ap (λ (w : LineWants). line_then (brought w (n + 1)) (coming_behind (n + 1) (lines_of (behind bytes)))) (by (nat_lt (n + 1) greatest))
   where
     by : (b : Bool) → cond b (wanted_by (first_line bytes)) Refused ≡ Refused
     by true = is
@@ -114,13 +114,13 @@ as_it_is : (x : Option Coming) → option_map (line_then None) x ≡ x
 as_it_is None = refl
 as_it_is (Some x) = refl
 
-by_wanted : (w : Wanted) (n : ℕ) (before after : Option Coming) → before ≡ option_map (line_then (brought w n)) after → LineBrings (brought w n) before after
+by_wanted : (w : LineWants) (n : ℕ) (before after : Option Coming) → before ≡ option_map (line_then (brought w n)) after → LineBrings (brought w n) before after
 by_wanted Nothing n before after is = is ∙ as_it_is after
 by_wanted (Stat path) n before after is = is
 by_wanted Refused n before after is = is
 
 -- the next line was given, and this is what it asks for
-line_brings_at : (old new : Reading) (left left' : Option (List ℕ)) (got line : List ℕ) (result : Result (Option Found) NoMemory)
+line_brings_at : (old new : Reading) (left left' : Option (List ℕ)) (got line : List ℕ) (result : Result (Option CallOrOver) NoMemory)
     → old.number < greatest → new.number ≡ counted old.number true → Took got left left'
     → IfSome left (λ b. IfSome left' (λ a. Gives (next.Line line) (ahead old b) (ahead new a)))
     → IfOk result (λ x. x ≡ brought (wanted_at new.number line) new.number)
@@ -128,14 +128,14 @@ line_brings_at : (old new : Reading) (left left' : Option (List ℕ)) (got line 
 line_brings_at old new left left' got line (Err e) small number took gives is = tt
 line_brings_at old new left left' got line (Ok x) small number took gives is =
     let on : new.number ≡ old.number + 1 = omega arith in
-    let P : Option Found → Type 0 = λ y. LineBrings y (lines_to_come old left) (lines_to_come new left') in
+    let P : Option CallOrOver → Type 0 = λ y. LineBrings y (lines_to_come old left) (lines_to_come new left') in
     subst P (sym is)
     (by_wanted (wanted_at new.number line) new.number (lines_to_come old left) (lines_to_come new left')
     (same_told left left' got (coming_ahead old) (coming_ahead new) (line_then (brought (wanted_at new.number line) new.number)) took
     (by_told left left' (λ b a. Gives (next.Line line) (ahead old b) (ahead new a)) (λ b a. coming_ahead old b ≡ line_then (brought (wanted_at new.number line) new.number) (coming_ahead new a))
     (λ b a g. rw on (given old.number line (ahead old b) (ahead new a) small g.0 g.1 g.4)) gives)))
 
-pub line_brings : (old new : Reading) (left left' : Option (List ℕ)) (got line : List ℕ) (number : ℕ) (result : Result (Option Found) NoMemory)
+pub line_brings : (old new : Reading) (left left' : Option (List ℕ)) (got line : List ℕ) (number : ℕ) (result : Result (Option CallOrOver) NoMemory)
     → old.number < greatest → new.number ≡ counted old.number true → Took got left left'
     → IfSome left (λ b. IfSome left' (λ a. Gives (next.Line line) (ahead old b) (ahead new a)))
     → number ≡ new.number
@@ -172,18 +172,18 @@ long_brings old new left left' got number is small counts took gives =
     (λ b a g. let long = g.0 in rw on
     (stopped old.number (ahead old b) small (has_first (ahead old b) (omega arith)) (too_long (first_line (ahead old b)) long))) gives)
 
-no_source : (w : Wanted) (n : ℕ) → is_source_line (brought w n) ≡ false
+no_source : (w : LineWants) (n : ℕ) → is_source_line (brought w n) ≡ false
 no_source Nothing n = refl
 no_source (Stat path) n = refl
 no_source Refused n = refl
 
 -- a line that was given is no failure of the source
-pub line_no_source : (number : ℕ) (line : List ℕ) (result : Result (Option Found) NoMemory)
+pub line_no_source : (number : ℕ) (line : List ℕ) (result : Result (Option CallOrOver) NoMemory)
     → IfOk result (λ x. x ≡ brought (wanted_at number line) number) → is_source_by is_source_line result ≡ false
 line_no_source number line (Err e) is = refl
 line_no_source number line (Ok x) is = ap is_source_line is ∙ no_source (wanted_at number line) number
 
-below_greatest : (number : ℕ) (line : List ℕ) (w : Wanted) → number < greatest → wanted_by line ≡ w → wanted_at number line ≡ w
+below_greatest : (number : ℕ) (line : List ℕ) (w : LineWants) → number < greatest → wanted_by line ≡ w → wanted_at number line ≡ w
 below_greatest number line w small is = cond-true _ _ _ (less number small) ∙ is
 
 -- a line with no fault asks for what it says
@@ -195,7 +195,7 @@ pub skip_brings : (number : ℕ) (line shown : List ℕ) (l : Line) → number <
     → None ≡ brought (wanted_at number line) number
 skip_brings number line shown l small same utf8 l_is is =
     let skip : IsLine said.Skip shown = subst (λ (k : Line). IsLine k shown) l_is is in
-    ap (λ (w : Wanted). brought w number)
+    ap (λ (w : LineWants). brought w number)
     (sym (below_greatest number shown Nothing small
     (with_no_fault shown utf8 (line_has_none said.Skip shown skip) ∙ cond-true _ _ _ skip.1)))
     ∙ ap (λ (t : List ℕ). brought (wanted_at number t) number) same
@@ -224,7 +224,7 @@ call_brings_at number lane line path small utf8 is =
     with_no_fault line utf8 (line_has_none (said.Call lane (call.Stat path)) line is)
     ∙ stat_line line path (stat_text line path is.1.words is.1.bytes_are is.1.call_is.0) is.1.call_is.1 in
     ap (λ (l : ℕ). Some (found.Call (record { number = number; lane = l; path = path }))) is.1.lane_is
-    ∙ ap (λ (w : Wanted). brought w number) (sym (below_greatest number line (Stat path) small wanted))
+    ∙ ap (λ (w : LineWants). brought w number) (sym (below_greatest number line (Stat path) small wanted))
 
 pub call_brings : (number lane : ℕ) (line shown path : List ℕ) (l : Line) (x : Call) → number < greatest → shown ≡ line → IsUtf8 shown
     → l ≡ said.Call lane x → x ≡ call.Stat path → IsLine l shown

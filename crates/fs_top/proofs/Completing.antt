@@ -3,18 +3,19 @@ use Rattle.std.proofs.Common.{rules, ◌≡◌, ◌⊎◌, inl, inr, ◌≤◌, 
 use Rattle.std.specs.Prelude.{min, IfSome}
 use Rattle.std.specs.List.{list_all}
 use Rattle.std.proofs.lemmas.List.Folds.{list_all-append}
+use Rattle.smb_head.specs.declared.command.TheConstants.{QUERY_INFO}
 use Rattle.smb_head.specs.Stream.{frames_in, rest_in}
 use Rattle.smb_link.specs.Count.{counted}
 use Rattle.smb_link.specs.Came.{Seen, own}
-use Rattle.smb_link.specs.Story.{told}
+use Rattle.smb_link.specs.Story.{story_with}
 use Rattle.smb_link.specs.declared.event.Event.{Event}
 use Rattle.smb_link.specs.declared.event.Event.TheVariants as event
 use Rattle.smb_link.specs.declared.mark.Mark.{Mark}
 use Rattle.smb_mount.specs.declared.fault.MountFault.{MountFault}
 use Rattle.smb_mount.specs.declared.fault.MountFault.TheVariants as fault
 use Rattle.smb_mount.specs.Kept as kept
-use Rattle.fs_core.specs.declared.part.Kind as kinds
-use Rattle.fs_core.specs.declared.part.Kind.TheVariants as kind
+use Rattle.fs_core.specs.declared.reply_kind.ReplyFault as kinds
+use Rattle.fs_core.specs.declared.reply_kind.ReplyFault.TheVariants as kind
 use Rattle.fs_core.specs.declared.wire.Stop.TheVariants as stop
 use Rattle.fs_core.specs.declared.wire.TheConstants.{MAX_FRAMES}
 use Rattle.smb_head.specs.declared.head.Head.{Head}
@@ -25,7 +26,7 @@ use Rattle.fs_core.specs.Course.{Does, Tally, bytes_got, frames_got, quiets_at_e
 use Rattle.fs_core.proofs.Courses.{frames_none, got_then}
 use Rattle.fs_core.proofs.Turns.{turns_whole, turns_sent, turns_frames}
 use Rattle.fs_core.proofs.NoCredit.{never_faulty}
-use Rattle.fs_top.specs.declared.ahead.Asked.{Asked}
+use Rattle.fs_top.specs.declared.ahead.ScriptCall.{ScriptCall}
 use Rattle.fs_top.specs.declared.ahead.Over.TheVariants as over
 use Rattle.fs_top.specs.declared.run_end.End.{End}
 use Rattle.fs_top.specs.declared.run_end.End.TheVariants as end
@@ -64,7 +65,7 @@ marks_bytes (event.Marked m ∷ events) marked = marks_bytes events marked
 marks_bytes (e ∷ events) marked = absurd (cc)
 
 -- the ends of a mount that is refused
-abbrev is_body : kinds.Kind → Bool
+abbrev is_body : kinds.ReplyFault → Bool
 is_body kind.Body = true
 is_body other = false
 
@@ -163,7 +164,7 @@ never_unread command part says = by _ says
     by (Err bad) is = absurd (cc)
     by (Ok head) is = body is.1
       where
-        body : (kind.Credit ≡ kind.Body) ⊎ ((kind.Credit ≡ kind.Info) × (command ≡ 16)) → ⊥
+        body : (kind.Credit ≡ kind.Body) ⊎ ((kind.Credit ≡ kind.Info) × (command ≡ QUERY_INFO)) → ⊥
         body (inl same) = absurd (cc)
         body (inr both) = other both.0
           where
@@ -270,13 +271,13 @@ printed_status e out old new status same faults stalls (inl line) = inl (line_st
 printed_status e out old new status same faults stalls (inr line) = inr (line_status end.Memory out old new status same faults stalls line)
 
 -- a script whose lines are all valid is read to its end
-front_few : (asked later : List Asked) (coming : Coming) → coming.calls ≡ asked ++ later → length asked ≡ greatest → length coming.calls < greatest → ⊥
+front_few : (asked later : List ScriptCall) (coming : Coming) → coming.calls ≡ asked ++ later → length asked ≡ greatest → length coming.calls < greatest → ⊥
 front_few asked later coming are many few = less (length coming.calls) (length asked) (length later) (ap length are ∙ length-append asked later) many few
   where
     less : (n a l : ℕ) → n ≡ a + l → a ≡ greatest → n < greatest → ⊥
     less n a l sum many few = omega (arith, sum, many, few)
 
-no_line : (number : ℕ) (script : Option Coming) (faults faults' : ℕ) (asked : List Asked) → IsValid script → ReadTo (over.Line number) script faults faults' asked → ⊥
+no_line : (number : ℕ) (script : Option Coming) (faults faults' : ℕ) (asked : List ScriptCall) → IsValid script → ReadTo (over.Line number) script faults faults' asked → ⊥
 no_line number script faults faults' asked valid (inl read) =
     ended (subst (λ (s : Option Coming). IfSome s (λ (c : Coming). (c.calls ≡ asked) × (c.over ≡ over.Line number))) valid.told read.0).1
   where
@@ -311,18 +312,18 @@ Outcome end.Memory out between = Same out between
 Outcome end.Sink out between = (x : Held) × Same out x × Refused x between
 Outcome e out between = ⊥
 
-left_memory : (last : List Asked) (calls : List _) (old new : Held) → LeftSo end.Memory last calls old new → Same old new
+left_memory : (last : List ScriptCall) (calls : List _) (old new : Held) → LeftSo end.Memory last calls old new → Same old new
 left_memory [] calls old new left = took_same [] old new left.1
 left_memory (x ∷ []) calls old new left = took_same [] old new left.1
 left_memory (x ∷ y ∷ more) calls old new left = absurd left
 
-left_sink : (last : List Asked) (calls : List _) (old new : Held) → LeftSo end.Sink last calls old new → Refused old new
+left_sink : (last : List ScriptCall) (calls : List _) (old new : Held) → LeftSo end.Sink last calls old new → Refused old new
 left_sink [] calls old new left = absurd left
 left_sink (x ∷ []) calls old new left = left.2.refused
 left_sink (x ∷ y ∷ more) calls old new left = absurd left
 
 -- a fault of a frame
-foul_frame : (start : kept.Start) (number : ℕ) (fault : kinds.Kind) (after : Tally) (events : List Event) → Serves start events → (is_foul fault ≡ true → ⊥)
+foul_frame : (start : kept.Start) (number : ℕ) (fault : kinds.ReplyFault) (after : Tally) (events : List Event) → Serves start events → (is_foul fault ≡ true → ⊥)
     → FailsBy (end.Frame number fault) fresh after events → ⊥
 foul_frame start number kind.Credit after events serves fair fails =
     never_starved number after events serves.generous serves.few (refused_or (end.Frame number kind.Credit) fresh after events refl fails)
@@ -430,7 +431,7 @@ pub ends_completes : (start : kept.Start) (script : Option Coming) (faults fault
     → RunEnds start script faults faults' false link link' out out' status → Completes start script faults faults' out out' link'.story status
 ends_completes start script faults faults' out out' link link' status begins ends came is room fold favours valid sound =
     let does : Does (RunSo start script faults faults' false ends.e out ends.between) link link' = ends.runs in
-    let whole : does.1.gained ≡ came = same_some does.1.gained came (sym (does.1.story ∙ ap (λ (s : Option (List Event)). told s does.1.gained) begins) ∙ is) in
+    let whole : does.1.gained ≡ came = same_some does.1.gained came (sym (does.1.story ∙ ap (λ (s : Option (List Event)). story_with s does.1.gained) begins) ∙ is) in
     let own_is : own came ≡ does.0 = ap own (sym whole) ∙ does.1.clients in
     by_outcome ends.e out ends.between out' status sound.writes sound.stalls
     (run_outcome start script faults faults' ends.e out ends.between does.0 (λ behind are. favours.serves behind (own_is ∙ are)) (ap (list_all is_steady) (sym own_is) ∙ favours.steady) valid sound.source

@@ -10,8 +10,8 @@ use Rattle.smb_link.proofs.CameLaws.{came_none, came_then}
 use Rattle.fs_core.specs.Course.{Does}
 use Rattle.fs_top.specs.declared.run_end.End.TheVariants as end
 use Rattle.fs_top.specs.Run.{opening}
-use Rattle.fs_top.specs.Course.{said, refusals, JoinsSo}
-use Rattle.fs_top.proofs.Courses.{said-append}
+use Rattle.fs_top.specs.Course.{script_marks, refusals, JoinsSo}
+use Rattle.fs_top.proofs.Courses.{script_marks-append}
 
 refusals-last : (n : ℕ) → refusals n ++ event.NotJoined ∷ [] ≡ refusals (n + 1)
 refusals-last zero = refl
@@ -20,11 +20,11 @@ refusals-last (suc n) = ap (λ (l : List Event). event.NotJoined ∷ l) (refusal
     one_more : (k : ℕ) → suc (k + 1) ≡ suc k + 1
     one_more k = omega arith
 
-said_refusals : (n : ℕ) → said (refusals n) ≡ []
+said_refusals : (n : ℕ) → script_marks (refusals n) ≡ []
 said_refusals zero = refl
 said_refusals (suc n) = said_refusals n
 
-said_opening : (stood : Bool) → said (opening stood) ≡ []
+said_opening : (stood : Bool) → script_marks (opening stood) ≡ []
 said_opening true = refl
 said_opening false = refl
 
@@ -64,12 +64,12 @@ tried_joined stood stands stands' n old now new t few came = (
   (n, behind_none stood stands (event.Joined ∷ []) t.events n t.so, few),
 )
 
-said_tried : (stood stands : Bool) (n : ℕ) (events : List Event) → ((n ≡ 0) × (events ≡ []) × (stands ≡ stood)) ⊎ ((events ≡ opening stood ++ refusals n) × (stands ≡ false)) → said events ≡ []
-said_tried stood stands n events (inl first) = ap said first.1
+said_tried : (stood stands : Bool) (n : ℕ) (events : List Event) → ((n ≡ 0) × (events ≡ []) × (stands ≡ stood)) ⊎ ((events ≡ opening stood ++ refusals n) × (stands ≡ false)) → script_marks events ≡ []
+said_tried stood stands n events (inl first) = ap script_marks first.1
 said_tried stood stands n events (inr later) =
-    ap said later.0 ∙ said-append (opening stood) (refusals n) ∙ ap (λ (l : List Mark). l ++ said (refusals n)) (said_opening stood) ∙ said_refusals n
+    ap script_marks later.0 ∙ script_marks-append (opening stood) (refusals n) ∙ ap (λ (l : List Mark). l ++ script_marks (refusals n)) (said_opening stood) ∙ said_refusals n
 
-said_ended : (cut : Bool) → said ((if cut then event.Cut ∷ [] else []) ++ []) ≡ []
+said_ended : (cut : Bool) → script_marks ((if cut then event.Cut ∷ [] else []) ++ []) ≡ []
 said_ended true = refl
 said_ended false = refl
 
@@ -80,7 +80,7 @@ tried_memory stood stands stands' n old now new t came = (
   came_then t.events (connect_events stands stands' (Err fail.NoMemory)) old now new t.came came,
   (
     refl,
-    said-append t.events (connect_events stands stands' (Err fail.NoMemory)) ∙ ap (λ (l : List Mark). l ++ said (connect_events stands stands' (Err fail.NoMemory))) (said_tried stood stands n t.events t.so)
+    script_marks-append t.events (connect_events stands stands' (Err fail.NoMemory)) ∙ ap (λ (l : List Mark). l ++ script_marks (connect_events stands stands' (Err fail.NoMemory))) (said_tried stood stands n t.events t.so)
         ∙ said_ended (connect_cuts stands stands' (Err fail.NoMemory)),
   ),
 )

@@ -13,8 +13,8 @@ use Rattle.smb_link.specs.Came.{Seen}
 use Rattle.smb_link.proofs.CameLaws.{came_none, came_then}
 use Rattle.smb_mount.specs.declared.facts.Facts.{Facts}
 use Rattle.smb_mount.specs.Requests.{tree_disconnect, logoff}
-use Rattle.fs_core.specs.declared.part.Kind as kinds
-use Rattle.fs_core.specs.declared.part.Kind.TheVariants as kind
+use Rattle.fs_core.specs.declared.reply_kind.ReplyFault as kinds
+use Rattle.fs_core.specs.declared.reply_kind.ReplyFault.TheVariants as kind
 use Rattle.fs_core.specs.declared.wire.Stop.{Stop}
 use Rattle.fs_core.specs.declared.wire.Stop.TheVariants as stop
 use Rattle.fs_core.specs.declared.wire.Wire.{Wire}
@@ -27,27 +27,27 @@ use Rattle.fs_top.specs.declared.run_end.End.{End}
 use Rattle.fs_top.specs.declared.run_end.End.TheVariants as end
 use Rattle.fs_top.specs.RunEndings.{end_of}
 use Rattle.fs_top.specs.MountCourse.{Told, StepTaken, StepThen}
-use Rattle.fs_top.specs.Course.{patience, is_of_script, said, is_of_call, calls_in, ordered, IsOrdered, Stretch, Stopped, ConversesSo, CauseOf, Broken, BreaksOff, StepsSo, AsksSo, TellsSo, BothTold, BothSo, LeavesSo}
+use Rattle.fs_top.specs.Course.{patience, is_of_script, script_marks, is_of_call, calls_in, ordered, IsOrdered, Stretch, Stopped, ConversesSo, CauseOf, Broken, BreaksOff, StepsSo, AsksSo, TellsSo, BothTold, BothSo, LeavesSo}
 
 -- what is said, one after the other
-pub said-append : (xs ys : List Event) → said (xs ++ ys) ≡ said xs ++ said ys
-said-append [] ys = refl
-said-append (event.Marked m ∷ xs) ys = by (is_of_script m) (said-append xs ys)
+pub script_marks-append : (xs ys : List Event) → script_marks (xs ++ ys) ≡ script_marks xs ++ script_marks ys
+script_marks-append [] ys = refl
+script_marks-append (event.Marked m ∷ xs) ys = by (is_of_script m) (script_marks-append xs ys)
   where
-    by : (t : Bool) → said (xs ++ ys) ≡ said xs ++ said ys → (if t then m ∷ said (xs ++ ys) else said (xs ++ ys)) ≡ (if t then m ∷ said xs else said xs) ++ said ys
+    by : (t : Bool) → script_marks (xs ++ ys) ≡ script_marks xs ++ script_marks ys → (if t then m ∷ script_marks (xs ++ ys) else script_marks (xs ++ ys)) ≡ (if t then m ∷ script_marks xs else script_marks xs) ++ script_marks ys
     by true is = ap (λ (l : List Mark). m ∷ l) is
     by false is = is
-said-append (event.Sent bytes ∷ xs) ys = said-append xs ys
-said-append (event.Got bytes ∷ xs) ys = said-append xs ys
-said-append (event.Quiet ∷ xs) ys = said-append xs ys
-said-append (event.Joined ∷ xs) ys = said-append xs ys
-said-append (event.NotJoined ∷ xs) ys = said-append xs ys
-said-append (event.Cut ∷ xs) ys = said-append xs ys
-said-append (event.Took mid ∷ xs) ys = said-append xs ys
-said-append (event.Pend mid ∷ xs) ys = said-append xs ys
-said-append (event.Act who request reply ∷ xs) ys = said-append xs ys
-said-append (event.Break key state ∷ xs) ys = said-append xs ys
-said-append (event.Dropped key ∷ xs) ys = said-append xs ys
+script_marks-append (event.Sent bytes ∷ xs) ys = script_marks-append xs ys
+script_marks-append (event.Got bytes ∷ xs) ys = script_marks-append xs ys
+script_marks-append (event.Quiet ∷ xs) ys = script_marks-append xs ys
+script_marks-append (event.Joined ∷ xs) ys = script_marks-append xs ys
+script_marks-append (event.NotJoined ∷ xs) ys = script_marks-append xs ys
+script_marks-append (event.Cut ∷ xs) ys = script_marks-append xs ys
+script_marks-append (event.Took mid ∷ xs) ys = script_marks-append xs ys
+script_marks-append (event.Pend mid ∷ xs) ys = script_marks-append xs ys
+script_marks-append (event.Act who request reply ∷ xs) ys = script_marks-append xs ys
+script_marks-append (event.Break key state ∷ xs) ys = script_marks-append xs ys
+script_marks-append (event.Dropped key ∷ xs) ys = script_marks-append xs ys
 
 -- nothing is said while the client sends and waits
 clock_says : (m : Mark) → is_of_talk (event.Marked m) ≡ true → is_of_script m ≡ false
@@ -57,11 +57,11 @@ clock_says (mark.Answer number a) is = absurd (cc)
 clock_says (mark.For number mid count) is = refl
 clock_says mark.End is = absurd (cc)
 
-pub said_talk : (events : List Event) → IsTalk events → said events ≡ []
+pub said_talk : (events : List Event) → IsTalk events → script_marks events ≡ []
 said_talk [] talk = refl
 said_talk (event.Marked m ∷ events) talk =
     let two = parts (is_of_talk (event.Marked m)) (list_all is_of_talk events) talk in
-    ap (λ (t : Bool). if t then m ∷ said events else said events) (clock_says m two.0) ∙ said_talk events two.1
+    ap (λ (t : Bool). if t then m ∷ script_marks events else script_marks events) (clock_says m two.0) ∙ said_talk events two.1
   where
     parts : (a b : Bool) → (a && b) ≡ true → (a ≡ true) × (b ≡ true)
     parts true b is = (refl, is)
@@ -111,11 +111,11 @@ stretch_then a b c ms ns xs ys first last = record {
   exchanges = first.exchanges ++ last.exchanges;
   one_by_one = turns_then first.exchanges last.exchanges xs ys first.one_by_one last.one_by_one;
   counted = stretch_counts a b c ms xs ys first last.counted;
-  says = said-append xs ys ∙ ap (λ (l : List Mark). l ++ said ys) first.says ∙ ap (λ (l : List Mark). ms ++ l) last.says;
+  says = script_marks-append xs ys ∙ ap (λ (l : List Mark). l ++ script_marks ys) first.says ∙ ap (λ (l : List Mark). ms ++ l) last.says;
 }
 
 -- marks alone are a stretch
-pub stretch_still : (n : Tally) (ms : List Mark) (events : List Event) → list_all is_mark events ≡ true → said events ≡ ms → Stretch n n ms events
+pub stretch_still : (n : Tally) (ms : List Mark) (events : List Event) → list_all is_mark events ≡ true → script_marks events ≡ ms → Stretch n n ms events
 stretch_still n ms events still says = record { exchanges = []; one_by_one = still; counted = tallied_none n events (still_bytes events still) (still_sent events still); says = says }
 
 -- the frames that came in a stretch, and in what is behind it
@@ -128,7 +128,7 @@ frames_counted a b c ms xs ys first counted =
     count m n k one two all = omega (arith, one, two, all)
 
 -- the cause of a stop stands behind a stretch too
-fault_then : (a b c : Tally) (ms : List Mark) (why : kinds.Kind) (xs ys : List Event) → Stretch a b ms xs → FaultAt b c why ys → FaultAt a c why (xs ++ ys)
+fault_then : (a b c : Tally) (ms : List Mark) (why : kinds.ReplyFault) (xs ys : List Event) → Stretch a b ms xs → FaultAt b c why ys → FaultAt a c why (xs ++ ys)
 fault_then a b c ms why xs ys first f = record {
   front = xs ++ f.front;
   exchanges = first.exchanges ++ f.exchanges;
@@ -146,7 +146,7 @@ fault_then a b c ms why xs ys first f = record {
     count : (m n k : ℕ) → b.frames ≡ a.frames + m → c.frames ≡ b.frames + n + f.number → k ≡ m + n → c.frames ≡ a.frames + k + f.number
     count m n k one two all = omega (arith, one, two, all)
 
-starves_then : (a b c : Tally) (ms : List Mark) (why : kinds.Kind) (xs ys : List Event) → Stretch a b ms xs → StarvesAt b c why ys → StarvesAt a c why (xs ++ ys)
+starves_then : (a b c : Tally) (ms : List Mark) (why : kinds.ReplyFault) (xs ys : List Event) → Stretch a b ms xs → StarvesAt b c why ys → StarvesAt a c why (xs ++ ys)
 starves_then a b c ms why xs ys first s = record {
   is = s.is;
   exchanges = first.exchanges ++ s.exchanges;
@@ -191,16 +191,16 @@ broken_then a b c ms ns e xs ys first last = record {
   are = ap (λ (l : List Event). xs ++ l) last.are ∙ sym (append_assoc xs last.upto last.behind);
   marked = last.marked;
   cause = cause_then a b c ms e xs last.upto first last.cause;
-  says = said-append xs ys ∙ ap (λ (l : List Mark). l ++ said ys) first.says ∙ ap (λ (l : List Mark). ms ++ l) last.says;
+  says = script_marks-append xs ys ∙ ap (λ (l : List Mark). l ++ script_marks ys) first.says ∙ ap (λ (l : List Mark). ms ++ l) last.says;
 }
 
-pub broken_at : (a b : Tally) (ms : List Mark) (e : End) (events : List Event) → CauseOf a b e events → said events ≡ ms → Broken a b ms e events
+pub broken_at : (a b : Tally) (ms : List Mark) (e : End) (events : List Event) → CauseOf a b e events → script_marks events ≡ ms → Broken a b ms e events
 broken_at a b ms e events cause says = record { upto = events; behind = []; are = sym (append-nil events); marked = refl; cause = cause; says = says }
 
 -- the end of a run in its calls, behind a stretch
 pub breaks_then : (a b c : Tally) (ms ns : List Mark) (e : End) (xs ys : List Event) → Stretch a b ms xs → BreaksOff b c ns e ys → BreaksOff a c (ms ++ ns) e (xs ++ ys)
 breaks_then a b c ms ns end.Sink xs ys first last =
-    (turn_then a b ms xs ys first last.0, said-append xs ys ∙ ap (λ (l : List Mark). l ++ said ys) first.says ∙ ap (λ (l : List Mark). ms ++ l) last.1)
+    (turn_then a b ms xs ys first last.0, script_marks-append xs ys ∙ ap (λ (l : List Mark). l ++ script_marks ys) first.says ∙ ap (λ (l : List Mark). ms ++ l) last.1)
 breaks_then a b c ms ns end.Memory xs ys first last = broken_then a b c ms ns end.Memory xs ys first last
 breaks_then a b c ms ns end.Cuts xs ys first last = broken_then a b c ms ns end.Cuts xs ys first last
 breaks_then a b c ms ns (end.Frame number why) xs ys first last = broken_then a b c ms ns (end.Frame number why) xs ys first last
@@ -242,7 +242,7 @@ replied_stretch a b message part events r = record {
   exchanges = (message, part) ∷ [];
   one_by_one = replied_turns a b message part events r;
   counted = r.counted;
-  says = ap said r.are ∙ said_talk r.waited (talk_wait r.waited r.wait);
+  says = ap script_marks r.are ∙ said_talk r.waited (talk_wait r.waited r.wait);
 }
 
 pub told_stretch : (request : Request) (next : ℕ) (a b : Tally) (part : List ℕ) (events : List Event) → Told request next a b part events → Stretch a b [] events
@@ -389,7 +389,7 @@ converses_then x (Err why) T U V o p q a b c old now new tells first last =
         },
         record {
           stops = stops_then a b c first.2.0 why first.0 last.0 t s.stops;
-          says = said-append first.0 last.0 ∙ ap (λ (l : List Mark). l ++ said last.0) t.says ∙ ap (λ (l : List Mark). first.2.0 ++ l) s.says;
+          says = script_marks-append first.0 last.0 ∙ ap (λ (l : List Mark). l ++ script_marks last.0) t.says ∙ ap (λ (l : List Mark). first.2.0 ++ l) s.says;
         },
       ),
     )

@@ -6,7 +6,7 @@ use Rattle.hex.proofs.OnLiterals.{hex_on_literals}
 use Rattle.smb_link.specs.declared.event.Event.{Event}
 use Rattle.smb_link.specs.declared.event.Event.TheVariants.{Got, Quiet}
 use Rattle.fs_top.specs.declared.ending.Ending.TheVariants as ending
-use Rattle.fs_top.specs.declared.ending.Kind.TheVariants as kind
+use Rattle.fs_top.specs.declared.ending.FirstFrameFault.TheVariants as kind
 use Rattle.smb_link.specs.Came.{counted_all, is_silence}
 use Rattle.smb_mount.specs.declared.fault.MountFault.TheVariants as fault
 use Rattle.fs_top.specs.declared.run_end.End.TheVariants as end

@@ -12,16 +12,16 @@ use Rattle.smb_link.specs.declared.mark.Mark.{Mark}
 use Rattle.smb_link.specs.declared.mark.Mark.TheVariants as mark
 use Rattle.smb_link.specs.Came.{Seen}
 use Rattle.smb_link.proofs.CameLaws.{came_then}
-use Rattle.fs_core.specs.declared.part.Awaited.{Awaited}
+use Rattle.fs_core.specs.declared.reply_kind.Awaited.{Awaited}
 use Rattle.fs_core.specs.declared.wire.Stop.{Stop}
 use Rattle.fs_core.specs.declared.wire.Wire.{Wire}
 use Rattle.fs_core.specs.declared.wire.Stop.TheVariants as stop
 use Rattle.fs_core.specs.Course.{Does, bytes_got, frames_got, Tally, tally_of, with_request, is_mark, InTurn, IsFaulty, IsUnread, AwaitedSo, AnsweredSo, Decides, is_unsent, SentSo, RequestedSo, request_in, StopsAt, IsInTurn}
 use Rattle.fs_core.proofs.Courses.{bytes_got-append, frames_none, same_counts, sent_none, sent_last, tallied_behind, tallied_sent, talk_wait, talk_cut, unsent_wait, unsent_cut, stops_unsent, all_in_turn}
 use Rattle.fs_core.proofs.Turns.{still_bytes, still_sent, still_between, wait_between, between_then}
-use Rattle.fs_top.specs.Course.{patience, said, Stretch, Stopped, NoCall, ConversesSo, LooksSo}
+use Rattle.fs_top.specs.Course.{patience, script_marks, Stretch, Stopped, NoCall, ConversesSo, LooksSo}
 use Rattle.fs_top.specs.Talks.{ExchangesTo}
-use Rattle.fs_top.proofs.Courses.{said-append, said_talk, stretch_still, stops_then}
+use Rattle.fs_top.proofs.Courses.{script_marks-append, said_talk, stretch_still, stops_then}
 
 -- an id was taken, or none: the counts of a connection before
 pub before_taking : (old new : Wire) (mid : Mid) → new.received ≡ old.received → new.granted ≡ old.granted → mid.0 ≡ old.next → record (tally_of new) { next = mid.0 } ≡ tally_of old
@@ -40,7 +40,7 @@ requested_is number mid message events (inr so) = so.1 ∙ ap (λ (l : List Even
 pub record Looked (ended ended' : Bool) (events : List Event) : Type 0 where
   pub marks : List Mark
   pub no_call : NoCall ended ended' marks
-  pub says : said events ≡ marks
+  pub says : script_marks events ≡ marks
   pub no_bytes : bytes_got events ≡ []
   pub unsent : list_all is_unsent events ≡ true
   pub still : list_all is_mark events ≡ true
@@ -49,7 +49,7 @@ pub looked_so : (ended ended' : Bool) (events : List Event) → LooksSo {X = Uni
 looked_so ended ended' events (inl so) = record {
   marks = [];
   no_call = record { none = refl; order = ap Some so.0 };
-  says = ap said so.1;
+  says = ap script_marks so.1;
   no_bytes = ap bytes_got so.1;
   unsent = ap (list_all is_unsent) so.1;
   still = ap (list_all is_mark) so.1;
@@ -57,7 +57,7 @@ looked_so ended ended' events (inl so) = record {
 looked_so ended ended' events (inr so) = record {
   marks = mark.End ∷ [];
   no_call = subst (λ (t : Bool). NoCall t ended' (mark.End ∷ [])) (sym so.0) (subst (λ (t : Bool). NoCall false t (mark.End ∷ [])) (sym so.1) (record { none = refl; order = refl }));
-  says = ap said so.2;
+  says = ap script_marks so.2;
   no_bytes = ap bytes_got so.2;
   unsent = ap (list_all is_unsent) so.2;
   still = ap (list_all is_mark) so.2;
@@ -127,7 +127,7 @@ stops_behind before after message stop.Frames look waited none unsent so = (
   so.2,
 )
 
-answered_says : (before after : Tally) (request : Awaited) (result : Result Rep Stop) (events : List Event) → AnsweredSo patience request before after result events → said events ≡ []
+answered_says : (before after : Tally) (request : Awaited) (result : Result Rep Stop) (events : List Event) → AnsweredSo patience request before after result events → script_marks events ≡ []
 answered_says before after request (Ok reply) events so = said_talk events (talk_wait events so.1.0)
 answered_says before after request (Err stop.NoMemory) events so = said_talk events (talk_wait events so)
 answered_says before after request (Err stop.Lost) events so = said_talk events (talk_cut events so)
@@ -140,8 +140,8 @@ answered_says before after request (Err (stop.Fault why)) events (inr so) = said
 announced : (number : ℕ) (mid : Mid) (n : Tally) → Stretch n n [] (event.Marked (mark.For number mid 1) ∷ [])
 announced number mid n = stretch_still n [] (event.Marked (mark.For number mid 1) ∷ []) refl refl
 
-behind_said : (look waited : List Event) (marks : List Mark) → said look ≡ marks → said waited ≡ [] → said (look ++ waited) ≡ marks
-behind_said look waited marks is none = said-append look waited ∙ ap (λ (l : List Mark). l ++ said waited) is ∙ ap (λ (l : List Mark). marks ++ l) none ∙ append-nil marks
+behind_said : (look waited : List Event) (marks : List Mark) → script_marks look ≡ marks → script_marks waited ≡ [] → script_marks (look ++ waited) ≡ marks
+behind_said look waited marks is none = script_marks-append look waited ∙ ap (λ (l : List Mark). l ++ script_marks waited) is ∙ ap (λ (l : List Mark). marks ++ l) none ∙ append-nil marks
 
 -- the events of an exchange
 the_events : (number : ℕ) (mid : Mid) (message : List ℕ) (sent look waited : List Event) → RequestedSo number mid message (Ok tt) sent
@@ -149,7 +149,7 @@ the_events : (number : ℕ) (mid : Mid) (message : List ℕ) (sent look waited :
 the_events number mid message sent look waited so = ap (λ (l : List Event). l ++ (look ++ waited)) (requested_is number mid message sent so)
 
 exchange_stretch : (number : ℕ) (mid : Mid) (message part : List ℕ) (before after : Tally) (marks : List Mark) (look waited : List Event)
-    → said look ≡ marks → list_all is_mark look ≡ true → AwaitedSo patience (request_in message) (with_request before) after (Ok part) waited
+    → script_marks look ≡ marks → list_all is_mark look ≡ true → AwaitedSo patience (request_in message) (with_request before) after (Ok part) waited
     → Stretch before after marks (event.Marked (mark.For number mid 1) ∷ event.Sent (frame message) ∷ look ++ waited)
 exchange_stretch number mid message part before after marks look waited says still so =
     let none : bytes_got look ≡ [] = still_bytes look still in
@@ -239,15 +239,15 @@ pub exchange_unsent : {X : Type 0} (T : X → List Event → Type 0) (number : �
     → Does (ConversesSo T o q n m (Err why)) old now
 exchange_unsent T number mid message why o q n m old now so = (so.0, so.1, ([], record { none = refl; order = (o, refl) }, by why so.0 so.2))
   where
-    sent : (w : Stop) (events : List Event) → SentSo message (Err w) events → said events ≡ []
-    sent stop.NoMemory events is = ap said is
-    sent stop.Lost events is = ap said is
+    sent : (w : Stop) (events : List Event) → SentSo message (Err w) events → script_marks events ≡ []
+    sent stop.NoMemory events is = ap script_marks is
+    sent stop.Lost events is = ap script_marks is
     sent stop.Silent events is = absurd is
     sent (stop.Fault fault) events is = absurd is
     sent stop.Frames events is = absurd is
 
     none_sent : (w : Stop) (events : List Event) → failed w ≡ failed stop.NoMemory → events ≡ [] → Stopped n m [] w events
-    none_sent stop.NoMemory events is none = record { stops = subst IsInTurn (sym none) (all_in_turn [] [] refl); says = ap said none }
+    none_sent stop.NoMemory events is none = record { stops = subst IsInTurn (sym none) (all_in_turn [] [] refl); says = ap script_marks none }
     none_sent stop.Lost events is none = absurd (cc)
     none_sent stop.Silent events is none = absurd (cc)
     none_sent (stop.Fault fault) events is none = absurd (cc)

@@ -3,7 +3,7 @@ pub mod Ports
 pub mod Printed
 pub mod Waiting
 pub mod Parts
-pub mod Asked
+pub mod PingSent
 pub mod Caused
 pub mod Once
 pub mod ByCountsLaws

@@ -14,8 +14,8 @@ use Rattle.fs_top.specs.declared.run_end.End.TheVariants as end
 use Rattle.fs_top.specs.RunEndings.{mount_end}
 use Rattle.fs_top.specs.MountCourse.{Told, StepTaken, StepThen}
 use Rattle.fs_top.specs.MountFailure.{StepFails, TreeFails, ChallengeFails, SessionFails, MountFails}
-use Rattle.fs_top.specs.Course.{said, AsksSo, Stretch}
-use Rattle.fs_top.proofs.Courses.{said-append, broken_at, told_stretch, taken_stretch}
+use Rattle.fs_top.specs.Course.{script_marks, AsksSo, Stretch}
+use Rattle.fs_top.proofs.Courses.{script_marks-append, broken_at, told_stretch, taken_stretch}
 
 -- the reply refuses it
 pub step_refused : (asked request : Request) (Refuses : MountFault → List ℕ → Type 0) (why : MountFault) (e : End) (next : ℕ) (slice part : List ℕ) (a b : Tally) (old new : Seen) → asked ≡ request → slice ≡ part
@@ -48,12 +48,12 @@ fails_first First All e next a b old new on so = (so.0, so.1, on so.0 so.2)
 
 -- nothing is said of the script
 abbrev IsUnsaid : (ℕ → Tally → Tally → List Event → Type 0) → Type 0
-IsUnsaid So = (next : ℕ) (a b : Tally) (events : List Event) → So next a b events → said events ≡ []
+IsUnsaid So = (next : ℕ) (a b : Tally) (events : List Event) → So next a b events → script_marks events ≡ []
 
 then_unsaid : (Step Rest : ℕ → Tally → Tally → List Event → Type 0) → IsUnsaid Step → IsUnsaid Rest → IsUnsaid (StepThen Step Rest)
 then_unsaid Step Rest first last next a b events s =
-    ap said s.are ∙ said-append s.events_of_step s.events_of_rest
-    ∙ ap (λ (l : List Mark). l ++ said s.events_of_rest) (first next a s.middle s.events_of_step s.step)
+    ap script_marks s.are ∙ script_marks-append s.events_of_step s.events_of_rest
+    ∙ ap (λ (l : List Mark). l ++ script_marks s.events_of_rest) (first next a s.middle s.events_of_step s.step)
     ∙ last (next + 1) s.middle b s.events_of_rest s.rest
 
 taken_unsaid : (request : Request) (Accepts : List ℕ → Type 0) → IsUnsaid (StepTaken request Accepts)

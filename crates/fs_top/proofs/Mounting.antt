@@ -18,7 +18,7 @@ use Rattle.fs_plain.specs.View.{no_view}
 use Rattle.fs_plain.specs.Moves.{Leads, Leaves}
 use Rattle.fs_plain.proofs.Leading.{leads_nowhere, leads_then, leads_shares, leads_join}
 use Rattle.fs_plain.proofs.Leaving.{leaves_now, leads_then_leaves, leads_refused}
-use Rattle.fs_core.specs.declared.part.Awaited.{Awaited}
+use Rattle.fs_core.specs.declared.reply_kind.Awaited.{Awaited}
 use Rattle.fs_core.specs.declared.wire.Stop.{Stop}
 use Rattle.fs_core.specs.Judged.{FinalWith, IsFinal}
 use Rattle.fs_core.specs.Exchange.{resting}

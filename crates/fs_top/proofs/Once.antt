@@ -4,6 +4,7 @@ use Rattle.std.proofs.Common.{◌≡◌, ◌==◌, ◌&&◌, inl, inr, ℕ, Bool
 use Rattle.std.proofs.lemmas.List.{append_cancel_left}
 use Rattle.smb_link.specs.declared.event.Event.{Event}
 use Rattle.smb_link.specs.declared.event.Event.TheVariants.{Sent, Got, Quiet, Joined, NotJoined, Cut}
+use Rattle.smb_head.specs.declared.command.TheConstants.{NEGOTIATE}
 use Rattle.smb_head.specs.declared.head.Head.{Head}
 use Rattle.smb_head.specs.declared.head.HeadFault.{HeadFault}
 use Rattle.smb_head.specs.Header.{head_of}
@@ -15,7 +16,7 @@ use Rattle.smb_body_a.specs.declared.negotiate.NegotiateReply.{NegotiateReply}
 use Rattle.smb_body_a.specs.Negotiate.{IsNegotiateReply}
 use Rattle.fs_top.specs.declared.ending.Ending.{Ending}
 use Rattle.fs_top.specs.declared.ending.Ending.TheVariants as ending
-use Rattle.fs_top.specs.declared.ending.Kind.TheVariants as kind
+use Rattle.fs_top.specs.declared.ending.FirstFrameFault.TheVariants as kind
 use Rattle.fs_top.specs.Request.{ping_frame}
 use Rattle.fs_top.specs.Run.{opening, AskedEnds, ArePing, Causes}
 use Rattle.fs_top.specs.Tale.{FirstEnds, LastEnds, WaitEnds}
@@ -60,9 +61,9 @@ same_once k e f x y = x ∙ sym y
 reply_ends_once : (head : Head) (part : List ℕ) (rest : Option (List ℕ)) (e f : Ending) → ReplyEnds head part rest e → ReplyEnds head part rest f → e ≡ f
 reply_ends_once head part rest e f =
     chosen_once (head.mid.0 == 0)
-    (λ x. MatchBool (head.command == 0 && is_reply head) (MatchBool (head.status.0 == 0) (GreetingEnds part rest x) (RefusalEnds part rest x)) (x ≡ ending.Frame kind.Body))
+    (λ x. MatchBool (head.command == NEGOTIATE && is_reply head) (MatchBool (head.status.0 == 0) (GreetingEnds part rest x) (RefusalEnds part rest x)) (x ≡ ending.Frame kind.Body))
     (λ x. x ≡ ending.Frame kind.Stranger) e f
-    (chosen_once (head.command == 0 && is_reply head)
+    (chosen_once (head.command == NEGOTIATE && is_reply head)
     (λ x. MatchBool (head.status.0 == 0) (GreetingEnds part rest x) (RefusalEnds part rest x))
     (λ x. x ≡ ending.Frame kind.Body) e f
     (chosen_once (head.status.0 == 0) (GreetingEnds part rest) (RefusalEnds part rest) e f (greeting_ends_once part rest e f) (refusal_ends_once part rest e f))

@@ -3,7 +3,7 @@ use Rattle.std.proofs.Common.{rules, ◌≡◌, inl, inr, ◌∙◌, refl, sym, 
 use Rattle.std.specs.Prelude.{MatchBool, IfSome, IsSome, OnOk, is_some, option_map}
 use Rattle.smb_link.specs.Count.{counted}
 use Rattle.fs_top.specs.declared.ahead.Ahead.{Ahead}
-use Rattle.fs_top.specs.declared.ahead.Asked.{Asked}
+use Rattle.fs_top.specs.declared.ahead.ScriptCall.{ScriptCall}
 use Rattle.fs_top.specs.declared.ahead.Over as overs
 use Rattle.fs_top.specs.declared.ahead.Over.TheVariants as over
 use Rattle.fs_top.specs.Script.{Coming, to_come, coming_ahead, held_then, unless_over, is_failed_now, IsHeldOrOver, over_of, greatest}
@@ -77,11 +77,11 @@ look_by (Some (over.Line n)) y A B H S A' B' first stays fails goes was is =
     subst (λ (o : Option overs.Over). MatchBool (is_source o) A' B') (sym (first refl))
     (goes was (subst (λ (o : Option overs.Over). MatchBool (is_failed_now (Some (over.Line n)) o) H S) (first refl) is) (ap (is_failed_now (Some (over.Line n))) (first refl)))
 
-front_of : (asked : List Asked) (later : Option Coming) → IfSome (option_map (behind_calls asked) later) (IsFront asked)
+front_of : (asked : List ScriptCall) (later : Option Coming) → IfSome (option_map (behind_calls asked) later) (IsFront asked)
 front_of asked None = tt
 front_of asked (Some c) = (c.calls, refl)
 
-front_by : (script : Option Coming) (asked : List Asked) (later : Option Coming) → script ≡ option_map (behind_calls asked) later → IfSome script (IsFront asked)
+front_by : (script : Option Coming) (asked : List ScriptCall) (later : Option Coming) → script ≡ option_map (behind_calls asked) later → IfSome script (IsFront asked)
 front_by script asked later is = subst (λ (s : Option Coming). IfSome s (IsFront asked)) (sym is) (front_of asked later)
 
 some_now : (x y : Option overs.Over) → (IsSome x → y ≡ x) → IsSome x → (n : ℕ) → counted n (is_failed_now x y) ≡ n
@@ -91,7 +91,7 @@ some_now None y first some n = absurd (no some)
     no : false ≡ true → ⊥
     no is = search rules
 
-pub progress_look : (script : Option Coming) (f : ℕ) (asked : List Asked) (r r' : Reads) → Progress script f asked r → ReadsOn r r' → Progress script f asked r'
+pub progress_look : (script : Option Coming) (f : ℕ) (asked : List ScriptCall) (r r' : Reads) → Progress script f asked r → ReadsOn r r' → Progress script f asked r'
 progress_look script f asked r r' p on =
     let over_same : IsSome r.ahead.over → r'.ahead.over ≡ r.ahead.over = λ some. ap (λ (x : Ahead). x.over) (on.stays (inr some)) in
     record {
@@ -109,18 +109,18 @@ progress_look script f asked r r' p on =
     }
 
 -- a call is taken
-behind_more : (asked : List Asked) (x : Asked) (later : Option Coming) → option_map (behind_calls asked) (option_map (held_then (Some x)) later) ≡ option_map (behind_calls (asked ++ x ∷ [])) later
+behind_more : (asked : List ScriptCall) (x : ScriptCall) (later : Option Coming) → option_map (behind_calls asked) (option_map (held_then (Some x)) later) ≡ option_map (behind_calls (asked ++ x ∷ [])) later
 behind_more asked x None = refl
-behind_more asked x (Some c) = ap (λ (l : List Asked). Some (record { calls = l; over = c.over })) (sym (append_assoc asked (x ∷ []) c.calls))
+behind_more asked x (Some c) = ap (λ (l : List ScriptCall). Some (record { calls = l; over = c.over })) (sym (append_assoc asked (x ∷ []) c.calls))
 
-abbrev nothing : Option Asked
+abbrev nothing : Option ScriptCall
 nothing = None
 
 take_by : (t : Bool) (A B A' B' : Type 0) → (A → ⊥) → (B → B') → MatchBool t A B → MatchBool t A' B'
 take_by true A B A' B' never on was = absurd (never was)
 take_by false A B A' B' never on was = on was
 
-pub progress_take : (script : Option Coming) (f : ℕ) (asked : List Asked) (x : Asked) (r : Reads) → r.ahead.held ≡ Some x
+pub progress_take : (script : Option Coming) (f : ℕ) (asked : List ScriptCall) (x : ScriptCall) (r : Reads) → r.ahead.held ≡ Some x
     → to_come r.ahead r.left ≡ option_map (held_then (Some x)) (to_come (record r.ahead { held = None }) r.left) → Progress script f asked r
     → Progress script f (asked ++ x ∷ []) (record r { ahead = record r.ahead { held = None } })
 progress_take script f asked x r held comes p = record {
@@ -142,7 +142,7 @@ front_or : (t : Bool) (A B C : Type 0) → (A → C) → (B → C) → MatchBool
 front_or true A B C a b was = a was
 front_or false A B C a b was = b was
 
-pub progress_front : (script : Option Coming) (f : ℕ) (asked : List Asked) (r : Reads) → Progress script f asked r → IfSome script (IsFront asked)
+pub progress_front : (script : Option Coming) (f : ℕ) (asked : List ScriptCall) (r : Reads) → Progress script f asked r → IfSome script (IsFront asked)
 progress_front script f asked r p =
     front_or (is_source r.ahead.over)
     ((r.ahead.held ≡ None) × IfSome script (IsFront asked) × (r.faults ≡ counted f true))
@@ -151,15 +151,15 @@ progress_front script f asked r p =
     (λ a. a.1) (λ b. front_by script asked (to_come r.ahead r.left) b.0) p.taken
 
 -- no more calls come
-nothing_held : (asked : List Asked) (why : overs.Over) (left : Option (List ℕ)) → (a : Ahead) → a.held ≡ None → a.over ≡ Some why
+nothing_held : (asked : List ScriptCall) (why : overs.Over) (left : Option (List ℕ)) → (a : Ahead) → a.held ≡ None → a.over ≡ Some why
     → IfSome (option_map (behind_calls asked) (to_come a left)) (λ s. (s.calls ≡ asked) × (s.over ≡ why))
 nothing_held asked why None a held over_is = tt
 nothing_held asked why (Some bytes) a held over_is = (
-  ap (λ (h : Option Asked). asked ++ (held_then h (unless_over a.over (coming_ahead a.lines bytes))).calls) held ∙ ap (λ (o : Option overs.Over). asked ++ (unless_over o (coming_ahead a.lines bytes)).calls) over_is ∙ append-nil asked,
-  ap (λ (h : Option Asked). (held_then h (unless_over a.over (coming_ahead a.lines bytes))).over) held ∙ ap (λ (o : Option overs.Over). (unless_over o (coming_ahead a.lines bytes)).over) over_is,
+  ap (λ (h : Option ScriptCall). asked ++ (held_then h (unless_over a.over (coming_ahead a.lines bytes))).calls) held ∙ ap (λ (o : Option overs.Over). asked ++ (unless_over o (coming_ahead a.lines bytes)).calls) over_is ∙ append-nil asked,
+  ap (λ (h : Option ScriptCall). (held_then h (unless_over a.over (coming_ahead a.lines bytes))).over) held ∙ ap (λ (o : Option overs.Over). (unless_over o (coming_ahead a.lines bytes)).over) over_is,
 )
 
-pub progress_end : (script : Option Coming) (f : ℕ) (asked : List Asked) (why : overs.Over) (r : Reads) → r.ahead.held ≡ None → r.ahead.over ≡ Some why → Progress script f asked r
+pub progress_end : (script : Option Coming) (f : ℕ) (asked : List ScriptCall) (why : overs.Over) (r : Reads) → r.ahead.held ≡ None → r.ahead.over ≡ Some why → Progress script f asked r
     → ReadTo why script f r.faults asked
 progress_end script f asked over.Source r held over_is p =
     let so = subst (λ (t : Bool). MatchBool t ((r.ahead.held ≡ None) × IfSome script (IsFront asked) × (r.faults ≡ counted f true)) ((script ≡ option_map (behind_calls asked) (to_come r.ahead r.left)) × (r.faults ≡ f))) (ap is_source over_is) p.taken in
@@ -172,7 +172,7 @@ progress_end script f asked (over.Line number) r held over_is p =
     inl (subst (λ (s : Option Coming). IfSome s (λ s. (s.calls ≡ asked) × (s.over ≡ over.Line number))) (sym so.0) (nothing_held asked (over.Line number) r.left r.ahead held over_is), so.1)
 
 -- or as many were answered as there are numbers
-pub progress_last : (script : Option Coming) (f : ℕ) (asked : List Asked) (r : Reads) → (IsSome r.ahead.held → r.ahead.over ≡ None)
+pub progress_last : (script : Option Coming) (f : ℕ) (asked : List ScriptCall) (r : Reads) → (IsSome r.ahead.held → r.ahead.over ≡ None)
     → (r.ahead.over ≡ None → length asked ≡ greatest) → Progress script f asked r → ReadTo (over_of r.ahead.over) script f r.faults asked
 progress_last script f asked r more many p = by r.ahead.over r.ahead.held refl refl
   where
@@ -182,13 +182,13 @@ progress_last script f asked r more many p = by r.ahead.over r.ahead.held refl r
         no : Some why ≡ None → ⊥
         no same = search rules
 
-    by : (o : Option overs.Over) (h : Option Asked) → r.ahead.over ≡ o → r.ahead.held ≡ h → ReadTo (over_of o) script f r.faults asked
+    by : (o : Option overs.Over) (h : Option ScriptCall) → r.ahead.over ≡ o → r.ahead.held ≡ h → ReadTo (over_of o) script f r.faults asked
     by None h over_is held = inr (refl, many over_is, progress_front script f asked r p)
     by (Some why) None over_is held = progress_end script f asked why r held over_is p
     by (Some why) (Some x) over_is held = absurd (no_some r.ahead.over why over_is (more (subst IsSome (sym held) refl)))
 
 -- nothing is held where nothing was taken
-pub none_held : (h : Option Asked) → IsSome h → None ≡ h → ⊥
+pub none_held : (h : Option ScriptCall) → IsSome h → None ≡ h → ⊥
 none_held h some none = no (ap is_some none ∙ some)
   where
     no : false ≡ true → ⊥
@@ -203,10 +203,10 @@ none_more a (inr some) none over_is = no (ap is_some (sym over_is) ∙ some)
     no is = search rules
 
 -- so many calls of a script were taken
-abbrev pub Took : Option Coming → ℕ → ℕ → Reads → List Asked → Type 0
+abbrev pub Took : Option Coming → ℕ → ℕ → Reads → List ScriptCall → Type 0
 Took script f many now asked = Progress script f asked now × (length asked ≡ many)
 
-pub one_longer : (asked : List Asked) (x : Asked) (n : ℕ) → length asked ≡ n → length (asked ++ x ∷ []) ≡ n + 1
+pub one_longer : (asked : List ScriptCall) (x : ScriptCall) (n : ℕ) → length asked ≡ n → length (asked ++ x ∷ []) ≡ n + 1
 one_longer [] x n is = omega (arith, is)
 one_longer (y ∷ asked) x zero is = absurd (cc)
 one_longer (y ∷ asked) x (suc n) is = more (length (asked ++ x ∷ [])) n (one_longer asked x n (less (length asked) n is))
@@ -221,7 +221,7 @@ one_longer (y ∷ asked) x (suc n) is = more (length (asked ++ x ∷ [])) n (one
 pub held_more : (last : ℕ) (a : Ahead) → IsAhead last a → IsSome a.held → a.over ≡ None
 held_more last a ahead some = by a.held some ahead.more
   where
-    by : (h : Option Asked) → IsSome h → IfSome h (λ (x : Asked). a.over ≡ None) → a.over ≡ None
+    by : (h : Option ScriptCall) → IsSome h → IfSome h (λ (x : ScriptCall). a.over ≡ None) → a.over ≡ None
     by None some more = absurd (no some)
       where
         no : false ≡ true → ⊥
@@ -229,11 +229,11 @@ held_more last a ahead some = by a.held some ahead.more
     by (Some x) some more = more
 
 -- the calls that were answered are the first of the script
-all_front : (asked : List Asked) (why : overs.Over) (script : Option Coming) → IfSome script (λ s. (s.calls ≡ asked) × (s.over ≡ why)) → IfSome script (IsFront asked)
+all_front : (asked : List ScriptCall) (why : overs.Over) (script : Option Coming) → IfSome script (λ s. (s.calls ≡ asked) × (s.over ≡ why)) → IfSome script (IsFront asked)
 all_front asked why None all = tt
 all_front asked why (Some s) all = ([], all.0 ∙ sym (append-nil asked))
 
-pub read_front : (why : overs.Over) (script : Option Coming) (f f' : ℕ) (asked : List Asked) → ReadTo why script f f' asked → IfSome script (IsFront asked)
+pub read_front : (why : overs.Over) (script : Option Coming) (f f' : ℕ) (asked : List ScriptCall) → ReadTo why script f f' asked → IfSome script (IsFront asked)
 read_front over.End script f f' asked so = all_front asked over.End script so.0
 read_front (over.Line number) script f f' asked (inl so) = all_front asked (over.Line number) script so.0
 read_front (over.Line number) script f f' asked (inr so) = so.2

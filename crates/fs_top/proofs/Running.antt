@@ -21,7 +21,7 @@ use Rattle.fs_plain.proofs.Clearing.{related_cleared}
 use Rattle.fs_plain.proofs.Leaving.{leaves_now, leaves_shares, gains_none, closes_shares, closes_answer, not_compared_fault, not_compared_loss, going_start, going_over, over_plain, over_after}
 use Rattle.fs_core.specs.Exchange.{resting}
 use Rattle.fs_top.specs.declared.ahead.Ahead.{Ahead}
-use Rattle.fs_top.specs.declared.ahead.Asked.{Asked}
+use Rattle.fs_top.specs.declared.ahead.ScriptCall.{ScriptCall}
 use Rattle.fs_top.specs.declared.run_end.End.{End}
 use Rattle.fs_top.specs.declared.run_end.End.TheVariants as end
 use Rattle.fs_core.specs.declared.wire.Stop.{Stop}
@@ -206,16 +206,16 @@ up_to_next last number begun up less = both (nat_le number number) (list_all (λ
         (raised ns (second (nat_le n last) (list_all (λ m. nat_le m last) ns) up))
 
 -- the call of a line as it begins
-abbrev pub started : Asked → Item
+abbrev pub started : ScriptCall → Item
 started asked = new_item asked.number asked.lane (call.Stat asked.path) (stat_program run_options asked.path)
 
-begins : (seed : List ℕ) (asked : Asked) (last : ℕ) (begun : List ℕ) (before : ℕ) (old new : Option (List Event)) → IsUpTo last begun → last < asked.number
+begins : (seed : List ℕ) (asked : ScriptCall) (last : ℕ) (begun : List ℕ) (before : ℕ) (old new : Option (List Event)) → IsUpTo last begun → last < asked.number
     → Gains (event.Marked (mark.Begin asked.number asked.lane (call.Stat asked.path)) ∷ []) old new
     → Leads run_options seed (resting [] begun before) (resting (started asked ∷ []) (asked.number ∷ begun) before) old new
 begins seed asked last begun before old new up less gains =
     leads_begin run_options seed (resting [] begun before) asked.number asked.lane (call.Stat asked.path) old new gains (below last asked.number begun up less) refl tt
 
-started_goes : (asked : Asked) (begun : List ℕ) → MayGoOn asked.number (asked.number ∷ begun) (started asked)
+started_goes : (asked : ScriptCall) (begun : List ℕ) → MayGoOn asked.number (asked.number ∷ begun) (started asked)
 started_goes asked begun = record {
   number_is = refl;
   idle = refl;
@@ -236,7 +236,7 @@ answers_one seed number a j begun after old new said gains =
     (leads_answer run_options seed (resting (j ∷ []) begun after) number j a old new gains (one_found number j said.number_is) said.says said.idle)
 
 -- as far as its answer
-up_to_answer : (seed : List ℕ) (asked : Asked) (a : Answer) (last : ℕ) (begun : List ℕ) (before after : ℕ) (old now new : Option (List Event)) → IsUpTo last begun → last < asked.number
+up_to_answer : (seed : List ℕ) (asked : ScriptCall) (a : Answer) (last : ℕ) (begun : List ℕ) (before after : ℕ) (old now new : Option (List Event)) → IsUpTo last begun → last < asked.number
     → Gains (event.Marked (mark.Begin asked.number asked.lane (call.Stat asked.path)) ∷ []) old now → Answers (IsStat asked.path) asked.number (Ok a) before after now new
     → (j : Item) × IsSaid asked.number a j × Leads run_options seed (resting [] begun before) (resting (j ∷ []) (asked.number ∷ begun) after) old new
 up_to_answer seed asked a last begun before after old now new up less gains answers =
@@ -247,7 +247,7 @@ up_to_answer seed asked a last begun before after old now new up less gains answ
           (begins seed asked last begun before old now up less gains) end.2,
     )
 
-told_line : (seed : List ℕ) (asked : Asked) (a : Answer) (last : ℕ) (begun : List ℕ) (before after : ℕ) (old now then_ new : Option (List Event)) → IsUpTo last begun → last < asked.number
+told_line : (seed : List ℕ) (asked : ScriptCall) (a : Answer) (last : ℕ) (begun : List ℕ) (before after : ℕ) (old now then_ new : Option (List Event)) → IsUpTo last begun → last < asked.number
     → Gains (event.Marked (mark.Begin asked.number asked.lane (call.Stat asked.path)) ∷ []) old now → Answers (IsStat asked.path) asked.number (Ok a) before after now then_
     → Gains (event.Marked (mark.Answer asked.number a) ∷ []) then_ new → Leads run_options seed (resting [] begun before) (resting [] (asked.number ∷ begun) after) old new
 told_line seed asked a last begun before after old now then_ new up less gains answers told =
@@ -255,7 +255,7 @@ told_line seed asked a last begun before after old now then_ new up less gains a
     leads_then run_options seed (resting [] begun before) (resting (at.0 ∷ []) (asked.number ∷ begun) after) (resting [] (asked.number ∷ begun) after) old then_ new
     at.2 (answers_one seed asked.number a at.0 (asked.number ∷ begun) after then_ new at.1 told)
 
-untold_line : (seed : List ℕ) (asked : Asked) (a : Answer) (e : End) → e ≡ end.Memory → (last : ℕ) (begun : List ℕ) (before after : ℕ) (old now then_ new : Option (List Event)) → IsUpTo last begun → last < asked.number
+untold_line : (seed : List ℕ) (asked : ScriptCall) (a : Answer) (e : End) → e ≡ end.Memory → (last : ℕ) (begun : List ℕ) (before after : ℕ) (old now then_ new : Option (List Event)) → IsUpTo last begun → last < asked.number
     → Gains (event.Marked (mark.Begin asked.number asked.lane (call.Stat asked.path)) ∷ []) old now → Answers (IsStat asked.path) asked.number (Ok a) before after now then_
     → Gains [] then_ new → Finishes seed e (resting [] begun before) old new
 untold_line seed asked a e is last begun before after old now then_ new up less gains answers told =
@@ -265,7 +265,7 @@ untold_line seed asked a e is last begun before after old now then_ new up less 
     (finishes_leaves seed end.Memory (resting (at.0 ∷ []) (asked.number ∷ begun) after) then_ new refl (leaves_shares run_options seed (resting (at.0 ∷ []) (asked.number ∷ begun) after) then_ new told)))
 
 -- it is begun, answered, and its answer is told
-pub line_told : (asked : Asked) (a : Answer) (result : Result (Unit {0}) End) (before after : ℕ) (old now then_ new : Option (List Event))
+pub line_told : (asked : ScriptCall) (a : Answer) (result : Result (Unit {0}) End) (before after : ℕ) (old now then_ new : Option (List Event))
     → Gains (event.Marked (mark.Begin asked.number asked.lane (call.Stat asked.path)) ∷ []) old now → Answers (IsStat asked.path) asked.number (Ok a) before after now then_
     → AnswerTold asked.number a result then_ new → AnswersLine asked.number result before after old new
 line_told asked a (Ok x) before after old now then_ new gains answers told = λ seed last begun up less.
@@ -285,7 +285,7 @@ line_told asked a (Err end.Source) before after old now then_ new gains answers 
 line_told asked a (Err end.Frames) before after old now then_ new gains answers told = λ seed last begun up less. untold_line seed asked a end.Frames told.0 last begun before after old now then_ new up less gains answers told.1
 
 -- it is begun, and the run gives up
-pub line_given_up : (asked : Asked) (why : Stop) (frames : ℕ) (e : End) (before after : ℕ) (old now then_ new : Option (List Event))
+pub line_given_up : (asked : ScriptCall) (why : Stop) (frames : ℕ) (e : End) (before after : ℕ) (old now then_ new : Option (List Event))
     → Gains (event.Marked (mark.Begin asked.number asked.lane (call.Stat asked.path)) ∷ []) old now → Answers (IsStat asked.path) asked.number (Err why) before after now then_
     → GivesUp asked.number (end_of why frames) e then_ new → AnswersLine asked.number (Err e) before after old new
 line_given_up asked why frames e before after old now then_ new gains answers given_up seed last begun up less =
@@ -298,7 +298,7 @@ line_given_up asked why frames e before after old now then_ new gains answers gi
     (given_up (end_through why frames) seed numbers (ap (λ (t : Bool). t || false) (itself asked.number)))))
 
 -- it is not begun
-pub line_unbegun : (asked : Asked) (before after : ℕ) (old new : Option (List Event)) → Gains [] old new → AnswersLine asked.number (Err end.Memory) before after old new
+pub line_unbegun : (asked : ScriptCall) (before after : ℕ) (old new : Option (List Event)) → Gains [] old new → AnswersLine asked.number (Err end.Memory) before after old new
 line_unbegun asked before after old new gains seed last begun up less =
     finishes_leaves seed end.Memory (resting [] begun before) old new refl (leaves_shares run_options seed (resting [] begun before) old new gains)
 
@@ -319,7 +319,7 @@ lines_start before a story ahead = record {
   leads = λ seed. leads_nowhere run_options seed (resting [] [] before) story;
 }
 
-pub lines_on : (before next after : ℕ) (a b c : Ahead) (asked : Asked) (old now mid new : Option (List Event)) → (l : Lines before next a old now)
+pub lines_on : (before next after : ℕ) (a b c : Ahead) (asked : ScriptCall) (old now mid new : Option (List Event)) → (l : Lines before next a old now)
     → ((last : ℕ) → IsAhead last a → IsAhead last b)
     → StaysOrLeaves {X = Unit {0}} {E = End} (Ok tt) now mid → ((last : ℕ) → IsAhead last b → (last < asked.number) × ((k : ℕ) → k ≡ asked.number → IsAhead k c))
     → AnswersLine asked.number (Ok tt) next after mid new → Lines before after c old new
@@ -336,7 +336,7 @@ lines_on before next after a b c asked old now mid new l kept looks takes answer
     }
 
 -- they end the run
-pub lines_fail : (before next after : ℕ) (a b : Ahead) (asked : Asked) (e : End) (old now mid new : Option (List Event)) → (l : Lines before next a old now)
+pub lines_fail : (before next after : ℕ) (a b : Ahead) (asked : ScriptCall) (e : End) (old now mid new : Option (List Event)) → (l : Lines before next a old now)
     → ((last : ℕ) → IsAhead last a → IsAhead last b)
     → StaysOrLeaves {X = Unit {0}} {E = End} (Ok tt) now mid → ((last : ℕ) → IsAhead last b → last < asked.number)
     → AnswersLine asked.number (Err e) next after mid new → (seed : List ℕ) → Finishes seed e (resting [] [] before) old new

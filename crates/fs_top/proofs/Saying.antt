@@ -17,15 +17,15 @@ use Rattle.fs_core.specs.declared.wire.Stop.TheVariants as stop
 use Rattle.fs_core.specs.Course.{Does, Tally, is_mark, IsInTurn}
 use Rattle.fs_core.proofs.Courses.{all_in_turn}
 use Rattle.fs_core.proofs.Turns.{in_turn_then, in_turn_behind, stop_in_turn}
-use Rattle.fs_top.specs.declared.ahead.Asked.{Asked}
+use Rattle.fs_top.specs.declared.ahead.ScriptCall.{ScriptCall}
 use Rattle.fs_top.specs.declared.run_end.End.{End}
 use Rattle.fs_top.specs.declared.run_end.End.TheVariants as end
 use Rattle.fs_top.specs.Printing.{Held, gained, TookAll, TookFront}
 use Rattle.fs_top.specs.Runs.{IsStat}
 use Rattle.fs_top.specs.Talks.{Talks}
 use Rattle.fs_top.specs.RunEndings.{end_of}
-use Rattle.fs_top.specs.Course.{patience, said, calls_in, ordered, IsOrdered, Stretch, Stopped, ConversesSo, Broken, begins, answers, unanswered, AnswersOneSo, BeginsSo, PrintsSo, GivesUpBy, GivesUpSo}
-use Rattle.fs_top.proofs.Courses.{said-append, calls_in-append, ordered_then, stretch_still, stretch_then, broken_then, broken_at, cause_of_stop}
+use Rattle.fs_top.specs.Course.{patience, script_marks, calls_in, ordered, IsOrdered, Stretch, Stopped, ConversesSo, Broken, begins, answers, unanswered, AnswersOneSo, BeginsSo, PrintsSo, GivesUpBy, GivesUpSo}
+use Rattle.fs_top.proofs.Courses.{script_marks-append, calls_in-append, ordered_then, stretch_still, stretch_then, broken_then, broken_at, cause_of_stop}
 
 -- nothing is printed
 gained_none : (so_far : Option (List ℕ)) → so_far ≡ gained so_far []
@@ -48,16 +48,16 @@ took_then xs ys h k m first last = record {
 }
 
 -- a mark as a stretch
-marked : (m : Mark) (n : Tally) → (marks : List Mark) → said (event.Marked m ∷ []) ≡ marks → Stretch n n marks (event.Marked m ∷ [])
+marked : (m : Mark) (n : Tally) → (marks : List Mark) → script_marks (event.Marked m ∷ []) ≡ marks → Stretch n n marks (event.Marked m ∷ [])
 marked m n marks is = stretch_still n marks (event.Marked m ∷ []) refl is
 
 -- a line's call begins
-pub begins_ok : (x : Asked) (result : Result (Unit {0}) NoMemory) (old new : Seen) → OnOk result (Came (event.Marked (begins x) ∷ []) old new) → OnErr result (Came [] old new)
+pub begins_ok : (x : ScriptCall) (result : Result (Unit {0}) NoMemory) (old new : Seen) → OnOk result (Came (event.Marked (begins x) ∷ []) old new) → OnErr result (Came [] old new)
     → Does (BeginsSo x result) old new
 begins_ok x (Ok u) old new told untold = (event.Marked (begins x) ∷ [], told, refl)
 begins_ok x (Err e) old new told untold = ([], untold, refl)
 
-pub begins_not : (x : Asked) (e : NoMemory) (seen : Seen) → Does (BeginsSo x (Err e)) seen seen
+pub begins_not : (x : ScriptCall) (e : NoMemory) (seen : Seen) → Does (BeginsSo x (Err e)) seen seen
 begins_not x e seen = ([], came_none seen, refl)
 
 -- an answer is told and printed
@@ -73,7 +73,7 @@ pub prints_front : (number : ℕ) (a : Answer) (text : List ℕ) (old new : Seen
 prints_front number a text old new h k is came took = (event.Marked (mark.Answer number a) ∷ [], came, (refl, subst (λ (t : List ℕ). TookFront t h k) is took))
 
 -- what a call says that is begun, goes on and is answered
-record Spoken (o p : Bool) (a b : Tally) (x : Asked) (r : Answer) (events : List Event) : Type 0 where
+record Spoken (o p : Bool) (a b : Tally) (x : ScriptCall) (r : Answer) (events : List Event) : Type 0 where
   pub marks : List Mark
   pub stretch : Stretch a b marks events
   pub order : ordered o marks ≡ Some p
@@ -82,7 +82,7 @@ record Spoken (o p : Bool) (a b : Tally) (x : Asked) (r : Answer) (events : List
 some_is : {X : Type 0} {x y : X} → x ≡ y → Some x ≡ Some y
 some_is is = ap Some is
 
-spoken : (p : Bool) (a b : Tally) (x : Asked) (r : Answer) (marks : List Mark) (events : List Event) → ordered false marks ≡ Some p → calls_in marks ≡ [] → Stretch a b marks events
+spoken : (p : Bool) (a b : Tally) (x : ScriptCall) (r : Answer) (marks : List Mark) (events : List Event) → ordered false marks ≡ Some p → calls_in marks ≡ [] → Stretch a b marks events
     → Spoken false p a b x r ((event.Marked (begins x) ∷ []) ++ (events ++ event.Marked (answers x r) ∷ []))
 spoken p a b x r marks events order none s = record {
   marks = (begins x ∷ []) ++ (marks ++ answers x r ∷ []);
@@ -104,28 +104,28 @@ not_memory e other is = no (sym other ∙ ap is_memory is)
     no same = search rules
 
 -- marks alone behind what broke off
-broken_behind : (a b : Tally) (ms ns : List Mark) (e : End) (xs ys : List Event) → Broken a b ms e xs → list_all is_mark ys ≡ true → said ys ≡ ns → Broken a b (ms ++ ns) e (xs ++ ys)
+broken_behind : (a b : Tally) (ms ns : List Mark) (e : End) (xs ys : List Event) → Broken a b ms e xs → list_all is_mark ys ≡ true → script_marks ys ≡ ns → Broken a b (ms ++ ns) e (xs ++ ys)
 broken_behind a b ms ns e xs ys broken marks says = record {
   upto = broken.upto;
   behind = broken.behind ++ ys;
   are = ap (λ (l : List Event). l ++ ys) broken.are ∙ append_assoc broken.upto broken.behind ys;
   marked = list_all-append is_mark broken.behind ys ∙ rw (broken.marked, marks) refl;
   cause = broken.cause;
-  says = said-append xs ys ∙ ap (λ (l : List Mark). l ++ said ys) broken.says ∙ ap (λ (l : List Mark). ms ++ l) says;
+  says = script_marks-append xs ys ∙ ap (λ (l : List Mark). l ++ script_marks ys) broken.says ∙ ap (λ (l : List Mark). ms ++ l) says;
 }
 
 -- a call is begun and stops
-broken_call : (x : Asked) (why : Stop) (a b : Tally) (marks : List Mark) (events : List Event) → Stopped a b marks why events
+broken_call : (x : ScriptCall) (why : Stop) (a b : Tally) (marks : List Mark) (events : List Event) → Stopped a b marks why events
     → Broken a b (begins x ∷ marks) (end_of why b.frames) ((event.Marked (begins x) ∷ []) ++ events)
 broken_call x why a b marks events s =
     broken_then a a b (begins x ∷ []) marks (end_of why b.frames) (event.Marked (begins x) ∷ []) events (marked (begins x) a (begins x ∷ []) refl)
     (broken_at a b marks (end_of why b.frames) events (cause_of_stop a b why events s.stops) s.says)
 
-begun_calls : (x : Asked) (marks : List Mark) → calls_in marks ≡ [] → calls_in (begins x ∷ marks) ≡ begins x ∷ []
+begun_calls : (x : ScriptCall) (marks : List Mark) → calls_in marks ≡ [] → calls_in (begins x ∷ marks) ≡ begins x ∷ []
 begun_calls x marks none = ap (λ (l : List Mark). begins x ∷ l) none
 
 -- requests went in turn up to a mark behind a call
-call_in_turn : (x : Asked) (begun went printed : List Event) → begun ≡ event.Marked (begins x) ∷ [] → IsInTurn went → list_all is_mark printed ≡ true → IsInTurn (begun ++ (went ++ printed))
+call_in_turn : (x : ScriptCall) (begun went printed : List Event) → begun ≡ event.Marked (begins x) ∷ [] → IsInTurn went → list_all is_mark printed ≡ true → IsInTurn (begun ++ (went ++ printed))
 call_in_turn x begun went printed is turn still =
     let behind : IsInTurn (went ++ printed) = in_turn_behind went printed turn still in
     subst (λ (l : List Event). IsInTurn (l ++ (went ++ printed))) (sym is) (behind.0, in_turn_then [] (event.Marked (begins x) ∷ []) (went ++ printed) behind.0 refl behind.1)
@@ -134,23 +134,23 @@ stretch_in_turn : (a b : Tally) (marks : List Mark) (events : List Event) → St
 stretch_in_turn a b marks events s = all_in_turn s.exchanges events s.one_by_one
 
 -- it ends for want of memory, with the call unanswered
-line_breaks : (x : Asked) (a b : Tally) (marks : List Mark) (old new : Seen) (h k : Held) (events : List Event) → Came events old new → said events ≡ begins x ∷ marks → calls_in marks ≡ []
+line_breaks : (x : ScriptCall) (a b : Tally) (marks : List Mark) (old new : Seen) (h k : Held) (events : List Event) → Came events old new → script_marks events ≡ begins x ∷ marks → calls_in marks ≡ []
     → IsOrdered false marks → TookAll [] h k → IsInTurn events → (p : Bool) → Does (AnswersOneSo false p a b x (Err end.Memory) h k) old new
 line_breaks x a b marks old new h k events came says none order took turn p =
     (events, came, (begins x ∷ marks, broken_at a b (begins x ∷ marks) end.Memory events turn says, order, (true, (begun_calls x marks none, took))))
 
-line_untold : (x : Asked) (r : Answer) (p : Bool) (a b : Tally) (old now then new : Seen) (h k : Held) → Does (BeginsSo {E = NoMemory} x (Ok tt)) old now
+line_untold : (x : ScriptCall) (r : Answer) (p : Bool) (a b : Tally) (old now then new : Seen) (h k : Held) → Does (BeginsSo {E = NoMemory} x (Ok tt)) old now
     → Does (ConversesSo (Talks (IsStat x.path) x.number) false p a b (Ok r)) now then → Does (λ (events : List Event). (events ≡ []) × TookAll [] h k) then new
     → Does (AnswersOneSo false p a b x (Err end.Memory) h k) old new
 line_untold x r p a b old now then new h k begun went printed =
     let t : Stretch a b went.2.0 went.0 = went.2.2 in
     line_breaks x a b went.2.0 old new h k (begun.0 ++ (went.0 ++ printed.0)) (came_then begun.0 (went.0 ++ printed.0) old now new begun.1 (came_then went.0 printed.0 now then new went.1 printed.1))
-    (ap (λ (l : List Event). said (l ++ (went.0 ++ printed.0))) begun.2 ∙ ap (λ (l : List Event). begins x ∷ said (went.0 ++ l)) printed.2.0 ∙ ap (λ (l : List Event). begins x ∷ said l) (append-nil went.0) ∙ ap (λ (l : List Mark). begins x ∷ l) t.says)
+    (ap (λ (l : List Event). script_marks (l ++ (went.0 ++ printed.0))) begun.2 ∙ ap (λ (l : List Event). begins x ∷ script_marks (went.0 ++ l)) printed.2.0 ∙ ap (λ (l : List Event). begins x ∷ script_marks l) (append-nil went.0) ∙ ap (λ (l : List Mark). begins x ∷ l) t.says)
     went.2.1.none (p, went.2.1.order) printed.2.1
     (call_in_turn x begun.0 went.0 printed.0 begun.2 (stretch_in_turn a b went.2.0 went.0 t) (ap (λ (l : List Event). list_all is_mark l) printed.2.0)) p
 
 -- a call is begun, goes on to its answer, and is answered and printed
-pub line_answered : (x : Asked) (r : Answer) (result : Result (Unit {0}) End) (p : Bool) (a b : Tally) (old now then new : Seen) (h k : Held)
+pub line_answered : (x : ScriptCall) (r : Answer) (result : Result (Unit {0}) End) (p : Bool) (a b : Tally) (old now then new : Seen) (h k : Held)
     → Does (BeginsSo {E = NoMemory} x (Ok tt)) old now → Does (ConversesSo (Talks (IsStat x.path) x.number) false p a b (Ok r)) now then → Does (PrintsSo x.number r result h k) then new
     → Does (AnswersOneSo false p a b x result h k) old new
 line_answered x r (Ok u) p a b old now then new h k begun went printed =
@@ -180,7 +180,7 @@ line_answered x r (Err end.Sink) p a b old now then new h k begun went printed =
         s.marks,
         (
           call_in_turn x begun.0 went.0 printed.0 begun.2 (stretch_in_turn a b went.2.0 went.0 went.2.2) (ap (λ (l : List Event). list_all is_mark l) printed.2.0),
-          ap said events ∙ t.says,
+          ap script_marks events ∙ t.says,
         ),
         (p, s.order),
         (true, (r, s.calls, printed.2.1)),
@@ -197,33 +197,33 @@ line_answered x r (Err end.Source) p a b old now then new h k begun went printed
 line_answered x r (Err end.Frames) p a b old now then new h k begun went printed = absurd (not_memory end.Frames refl printed.2.0)
 
 -- a line's call is not begun
-pub call_unbegun : (x : Asked) (p : Bool) (n m : Tally) (old now : Seen) (h : Held) (o : Bool) → Does (λ (events : List Event). events ≡ []) old now → Does (AnswersOneSo o p n m x (Err end.Memory) h h) old now
+pub call_unbegun : (x : ScriptCall) (p : Bool) (n m : Tally) (old now : Seen) (h : Held) (o : Bool) → Does (λ (events : List Event). events ≡ []) old now → Does (AnswersOneSo o p n m x (Err end.Memory) h h) old now
 call_unbegun x p n m old now h o begun =
-    (begun.0, begun.1, ([], broken_at n m [] end.Memory begun.0 (subst IsInTurn (sym begun.2) (all_in_turn [] [] refl)) (ap said begun.2), (o, refl), (false, (refl, took_none h))))
+    (begun.0, begun.1, ([], broken_at n m [] end.Memory begun.0 (subst IsInTurn (sym begun.2) (all_in_turn [] [] refl)) (ap script_marks begun.2), (o, refl), (false, (refl, took_none h))))
 
 -- the events of a call that stops
-stopped_events : (x : Asked) (begun went printed : List Event) → begun ≡ event.Marked (begins x) ∷ [] → begun ++ (went ++ printed) ≡ ((event.Marked (begins x) ∷ []) ++ went) ++ printed
+stopped_events : (x : ScriptCall) (begun went printed : List Event) → begun ≡ event.Marked (begins x) ∷ [] → begun ++ (went ++ printed) ≡ ((event.Marked (begins x) ∷ []) ++ went) ++ printed
 stopped_events x begun went printed is = ap (λ (l : List Event). l ++ (went ++ printed)) is
 
 -- it is answered with the error number of the cause
-line_given : (x : Asked) (errno : ℕ) (why : Stop) (p : Bool) (a b : Tally) (marks : List Mark) (old new : Seen) (h k : Held) (begun went printed : List Event) → Came (begun ++ (went ++ printed)) old new
+line_given : (x : ScriptCall) (errno : ℕ) (why : Stop) (p : Bool) (a b : Tally) (marks : List Mark) (old new : Seen) (h k : Held) (begun went printed : List Event) → Came (begun ++ (went ++ printed)) old new
     → begun ≡ event.Marked (begins x) ∷ [] → calls_in marks ≡ [] → IsOrdered false marks → Stopped a b marks why went
     → printed ≡ event.Marked (mark.Answer x.number (unanswered errno)) ∷ []
     → Broken a b (begins x ∷ (marks ++ answers x (unanswered errno) ∷ [])) (end_of why b.frames) (begun ++ (went ++ printed))
 line_given x errno why p a b marks old new h k begun went printed came is none order s told =
     subst (Broken a b (begins x ∷ (marks ++ answers x (unanswered errno) ∷ [])) (end_of why b.frames)) (sym (stopped_events x begun went printed is))
     (broken_behind a b (begins x ∷ marks) (answers x (unanswered errno) ∷ []) (end_of why b.frames) ((event.Marked (begins x) ∷ []) ++ went) printed (broken_call x why a b marks went s)
-    (ap (list_all is_mark) told) (ap said told))
+    (ap (list_all is_mark) told) (ap script_marks told))
 
-given_calls : (x : Asked) (r : Answer) (marks : List Mark) → calls_in marks ≡ [] → calls_in (begins x ∷ (marks ++ answers x r ∷ [])) ≡ begins x ∷ answers x r ∷ []
+given_calls : (x : ScriptCall) (r : Answer) (marks : List Mark) → calls_in marks ≡ [] → calls_in (begins x ∷ (marks ++ answers x r ∷ [])) ≡ begins x ∷ answers x r ∷ []
 given_calls x r marks none = ap (λ (l : List Mark). begins x ∷ l) (calls_in-append marks (answers x r ∷ []) ∙ ap (λ (l : List Mark). l ++ answers x r ∷ []) none)
 
-given_order : (x : Asked) (r : Answer) (marks : List Mark) → IsOrdered false marks → IsOrdered false (begins x ∷ (marks ++ answers x r ∷ []))
+given_order : (x : ScriptCall) (r : Answer) (marks : List Mark) → IsOrdered false marks → IsOrdered false (begins x ∷ (marks ++ answers x r ∷ []))
 given_order x r marks order = (order.0, ordered_then false order.0 marks (answers x r ∷ []) order.1)
 
 -- or its line is refused, or memory runs out meanwhile
-line_refused : (x : Asked) (r : Answer) (a b : Tally) (marks : List Mark) (old new : Seen) (h k : Held) (begun went printed : List Event) → Came (begun ++ (went ++ printed)) old new
-    → begun ≡ event.Marked (begins x) ∷ [] → calls_in marks ≡ [] → IsOrdered false marks → said went ≡ marks → IsInTurn went → (e : End) → PrintsSo x.number r (Err e) h k printed
+line_refused : (x : ScriptCall) (r : Answer) (a b : Tally) (marks : List Mark) (old new : Seen) (h k : Held) (begun went printed : List Event) → Came (begun ++ (went ++ printed)) old new
+    → begun ≡ event.Marked (begins x) ∷ [] → calls_in marks ≡ [] → IsOrdered false marks → script_marks went ≡ marks → IsInTurn went → (e : End) → PrintsSo x.number r (Err e) h k printed
     → (p : Bool) → Does (AnswersOneSo false p a b x (Err e) h k) old new
 line_refused x r a b marks old new h k begun went printed came is none order says turn end.Sink prints p = (
   begun ++ (went ++ printed),
@@ -232,7 +232,7 @@ line_refused x r a b marks old new h k begun went printed came is none order say
     begins x ∷ (marks ++ answers x r ∷ []),
     (
       call_in_turn x begun went printed is turn (ap (λ (l : List Event). list_all is_mark l) prints.0),
-      ap said (stopped_events x begun went printed is) ∙ ap (λ (l : List Mark). begins x ∷ l) (said-append went printed ∙ ap (λ (l : List Mark). l ++ said printed) says ∙ ap (λ (l : List Event). marks ++ said l) prints.0),
+      ap script_marks (stopped_events x begun went printed is) ∙ ap (λ (l : List Mark). begins x ∷ l) (script_marks-append went printed ∙ ap (λ (l : List Mark). l ++ script_marks printed) says ∙ ap (λ (l : List Event). marks ++ script_marks l) prints.0),
     ),
     given_order x r marks order,
     (true, (r, given_calls x r marks none, prints.1)),
@@ -240,7 +240,7 @@ line_refused x r a b marks old new h k begun went printed came is none order say
 )
 line_refused x r a b marks old new h k begun went printed came is none order says turn end.Memory prints p =
     line_breaks x a b marks old new h k (begun ++ (went ++ printed)) came
-    (ap said (stopped_events x begun went printed is) ∙ ap (λ (l : List Mark). begins x ∷ l) (said-append went printed ∙ ap (λ (l : List Mark). l ++ said printed) says ∙ ap (λ (l : List Event). marks ++ said l) prints.1 ∙ append-nil marks))
+    (ap script_marks (stopped_events x begun went printed is) ∙ ap (λ (l : List Mark). begins x ∷ l) (script_marks-append went printed ∙ ap (λ (l : List Mark). l ++ script_marks printed) says ∙ ap (λ (l : List Event). marks ++ script_marks l) prints.1 ∙ append-nil marks))
     none order prints.2 (call_in_turn x begun went printed is turn (ap (λ (l : List Event). list_all is_mark l) prints.1)) p
 line_refused x r a b marks old new h k begun went printed came is none order says turn end.Done prints p = absurd (not_memory end.Done refl prints.0)
 line_refused x r a b marks old new h k begun went printed came is none order says turn (end.Line number) prints p = absurd (not_memory (end.Line number) refl prints.0)
@@ -252,7 +252,7 @@ line_refused x r a b marks old new h k begun went printed came is none order say
 line_refused x r a b marks old new h k begun went printed came is none order says turn end.Frames prints p = absurd (not_memory end.Frames refl prints.0)
 
 -- the cause has no error number
-unnumbered : (x : Asked) (why : Stop) (p : Bool) (a b : Tally) (marks : List Mark) (old new : Seen) (h k : Held) (begun went printed : List Event) → Came (begun ++ (went ++ printed)) old new
+unnumbered : (x : ScriptCall) (why : Stop) (p : Bool) (a b : Tally) (marks : List Mark) (old new : Seen) (h k : Held) (begun went printed : List Event) → Came (begun ++ (went ++ printed)) old new
     → begun ≡ event.Marked (begins x) ∷ [] → Stopped a b marks why went → printed ≡ [] → Broken a b (begins x ∷ marks) (end_of why b.frames) (begun ++ (went ++ printed))
 unnumbered x why p a b marks old new h k begun went printed came is s none =
     subst (Broken a b (begins x ∷ marks) (end_of why b.frames))
@@ -260,7 +260,7 @@ unnumbered x why p a b marks old new h k begun went printed came is s none =
     (broken_call x why a b marks went s)
 
 -- a call is begun and stops, and the run gives it up
-give_up_by : (x : Asked) (why : Stop) (e' : End) (p q : Bool) (a b : Tally) (old now then new : Seen) (h k : Held) → (begun : Does (BeginsSo {E = NoMemory} x (Ok tt)) old now)
+give_up_by : (x : ScriptCall) (why : Stop) (e' : End) (p q : Bool) (a b : Tally) (old now then new : Seen) (h k : Held) → (begun : Does (BeginsSo {E = NoMemory} x (Ok tt)) old now)
     → (went : Does (ConversesSo (Talks (IsStat x.path) x.number) false q a b (Err why)) now then) → (gave : Does (GivesUpSo x.number (end_of why b.frames) e' h k) then new) → Does (AnswersOneSo false p a b x (Err e') h k) old new
 give_up_by x stop.NoMemory e' p q a b old now then new h k begun went gave =
     let came = came_then begun.0 (went.0 ++ gave.0) old now new begun.1 (came_then went.0 gave.0 now then new went.1 gave.1) in
@@ -347,6 +347,6 @@ give_up_by x (stop.Fault fault) e' p q a b old now then new h k begun went gave 
         )
     faulty e' marks begun went printed came is none order s (inr gave) = line_refused x (unanswered 71) a b marks old new h k begun went printed came is none order s.says (stop_in_turn patience a b (stop.Fault fault) went s.stops) e' gave p
 
-pub call_given_up : (x : Asked) (why : Stop) (e' : End) (p q : Bool) (a b : Tally) (old now then new : Seen) (h k : Held) → Does (BeginsSo {E = NoMemory} x (Ok tt)) old now
+pub call_given_up : (x : ScriptCall) (why : Stop) (e' : End) (p q : Bool) (a b : Tally) (old now then new : Seen) (h k : Held) → Does (BeginsSo {E = NoMemory} x (Ok tt)) old now
     → Does (ConversesSo (Talks (IsStat x.path) x.number) false q a b (Err why)) now then → Does (GivesUpSo x.number (end_of why b.frames) e' h k) then new → Does (AnswersOneSo false p a b x (Err e') h k) old new
 call_given_up x why e' p q a b old now then new h k begun went gave = give_up_by x why e' p q a b old now then new h k begun went gave

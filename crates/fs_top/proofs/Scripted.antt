@@ -12,7 +12,7 @@ use Rattle.smb_mount.specs.Kept as kept
 use Rattle.fs_script.specs.Answers.{line_of}
 use Rattle.fs_core.specs.Course.{Does, Tally, IsInTurn}
 use Rattle.fs_core.proofs.Courses.{all_in_turn}
-use Rattle.fs_top.specs.declared.ahead.Asked.{Asked}
+use Rattle.fs_top.specs.declared.ahead.ScriptCall.{ScriptCall}
 use Rattle.fs_top.specs.declared.ahead.Over.{Over}
 use Rattle.fs_top.specs.declared.ahead.Over.TheVariants as over
 use Rattle.fs_top.specs.declared.run_end.End.{End}
@@ -22,7 +22,7 @@ use Rattle.fs_top.specs.Script.{Coming, end_by, over_of}
 use Rattle.fs_top.specs.Progress.{ReadTo}
 use Rattle.fs_top.specs.MountCourse.{MountedBy, start_of}
 use Rattle.fs_top.specs.SharePath.{share_path}
-use Rattle.fs_top.specs.Course.{said, calls_in, Stretch, Broken, begins, answers, dialogue, lines, AnswersSo, asked_of, LeftSo, AllAnswered, BrokenOff, AnswersOneSo, IsFrontOf, IsEndTold, OverSo, LeavesSo, LooksSo, JoinsSo, ServesSo}
+use Rattle.fs_top.specs.Course.{script_marks, calls_in, Stretch, Broken, begins, answers, dialogue, lines, AnswersSo, asked_of, LeftSo, AllAnswered, BrokenOff, AnswersOneSo, IsFrontOf, IsEndTold, OverSo, LeavesSo, LooksSo, JoinsSo, ServesSo}
 use Rattle.fs_top.specs.MountFailure.{MountFails}
 use Rattle.fs_top.specs.RunCourse.{fresh, MountsSo, RunSo}
 use Rattle.fs_top.proofs.Courses.{calls_in-append, ordered_then, is_ordered_then, stretch_none, stretch_still, stretch_then, breaks_then, breaks_at_link, broken_at}
@@ -30,20 +30,20 @@ use Rattle.fs_top.proofs.Exchanging.{Looked, looked_so}
 use Rattle.fs_top.proofs.Saying.{took_none, took_then}
 use Rattle.fs_top.proofs.Talking.{each_behind, each_more}
 
-dialogue-append : (xs ys : List (Asked × Answer)) → dialogue (xs ++ ys) ≡ dialogue xs ++ dialogue ys
+dialogue-append : (xs ys : List (ScriptCall × Answer)) → dialogue (xs ++ ys) ≡ dialogue xs ++ dialogue ys
 dialogue-append [] ys = refl
 dialogue-append (x ∷ xs) ys = ap (λ (l : List Mark). begins x.0 ∷ answers x.0 x.1 ∷ l) (dialogue-append xs ys)
 
-lines-append : (xs ys : List (Asked × Answer)) → lines (xs ++ ys) ≡ lines xs ++ lines ys
+lines-append : (xs ys : List (ScriptCall × Answer)) → lines (xs ++ ys) ≡ lines xs ++ lines ys
 lines-append [] ys = refl
 lines-append (x ∷ xs) ys = ap (λ (l : List ℕ). line_of x.0.number x.1 ++ l) (lines-append xs ys) ∙ sym (append_assoc (line_of x.0.number x.1) (lines xs) (lines ys))
 
-asked-append : (xs ys : List (Asked × Answer)) → asked_of (xs ++ ys) ≡ asked_of xs ++ asked_of ys
+asked-append : (xs ys : List (ScriptCall × Answer)) → asked_of (xs ++ ys) ≡ asked_of xs ++ asked_of ys
 asked-append [] ys = refl
-asked-append (x ∷ xs) ys = ap (λ (l : List Asked). x.0 ∷ l) (asked-append xs ys)
+asked-append (x ∷ xs) ys = ap (λ (l : List ScriptCall). x.0 ∷ l) (asked-append xs ys)
 
 -- at the start
-pub all_none : (P : List Asked → Type 0) (o : Bool) (n : Tally) (h : Held) (seen : Seen) → P [] → Does (AllAnswered o o n n P h h) seen seen
+pub all_none : (P : List ScriptCall → Type 0) (o : Bool) (n : Tally) (h : Held) (seen : Seen) → P [] → Does (AllAnswered o o n n P h h) seen seen
 all_none P o n h seen script = (
   [],
   came_none seen,
@@ -63,7 +63,7 @@ all_none P o n h seen script = (
 looked_stretch : (o p : Bool) (n : Tally) (events : List Event) → (l : Looked o p events) → Stretch n n l.marks events
 looked_stretch o p n events l = stretch_still n l.marks events l.still l.says
 
-pub all_look : (P Q : List Asked → Type 0) (o p q : Bool) (a b : Tally) (h k : Held) (old now new : Seen) → ((asked : List Asked) → P asked → Q asked) → Does (AllAnswered o p a b P h k) old now
+pub all_look : (P Q : List ScriptCall → Type 0) (o p q : Bool) (a b : Tally) (h k : Held) (old now new : Seen) → ((asked : List ScriptCall) → P asked → Q asked) → Does (AllAnswered o p a b P h k) old now
     → Does (LooksSo {X = Unit {0}} {E = NoMemory} p q (Ok tt)) now new → Does (AllAnswered o q a b Q h k) old new
 all_look P Q o p q a b h k old now new on all look =
     let l : Looked p q look.0 = looked_so p q look.0 look.2 in
@@ -83,14 +83,14 @@ all_look P Q o p q a b h k old now new on all look =
     )
 
 -- the same calls, of which more is known
-pub all_as : (P Q : List Asked → Type 0) (o p : Bool) (a b : Tally) (h k : Held) (old new : Seen) → ((asked : List Asked) → P asked → Q asked) → Does (AllAnswered o p a b P h k) old new
+pub all_as : (P Q : List ScriptCall → Type 0) (o p : Bool) (a b : Tally) (h k : Held) (old new : Seen) → ((asked : List ScriptCall) → P asked → Q asked) → Does (AllAnswered o p a b P h k) old new
     → Does (AllAnswered o p a b Q h k) old new
 all_as P Q o p a b h k old new on all =
     let s : AllAnswered o p a b P h k all.0 = all.2 in
     (all.0, all.1, record { done = s.done; marks = s.marks; stretch = s.stretch; order = s.order; calls = s.calls; printed = s.printed; each = s.each; script = on (asked_of s.done) s.script })
 
 -- one call more
-pub all_more : (P Q : List Asked → Type 0) (x : Asked) (o p q : Bool) (a b c : Tally) (h k m : Held) (old now new : Seen) → ((asked : List Asked) → P asked → Q (asked ++ x ∷ []))
+pub all_more : (P Q : List ScriptCall → Type 0) (x : ScriptCall) (o p q : Bool) (a b c : Tally) (h k m : Held) (old now new : Seen) → ((asked : List ScriptCall) → P asked → Q (asked ++ x ∷ []))
     → Does (AllAnswered o p a b P h k) old now → Does (AnswersOneSo p q b c x (Ok tt) k m) now new → Does (AllAnswered o q a c Q h m) old new
 all_more P Q x o p q a b c h k m old now new on all one =
     let s : AllAnswered o p a b P h k all.0 = all.2 in
@@ -118,7 +118,7 @@ end_told (Some (over.Line number)) = inl refl
 end_told (Some over.Source) = refl
 
 -- the run ends in a call
-pub all_break : (P Q : List Asked → Type 0) (x : Asked) (e : End) (o p q : Bool) (a b c : Tally) (h k m : Held) (old now new : Seen) → ((asked : List Asked) → P asked → Q (asked ++ x ∷ []) × Q asked)
+pub all_break : (P Q : List ScriptCall → Type 0) (x : ScriptCall) (e : End) (o p q : Bool) (a b c : Tally) (h k m : Held) (old now new : Seen) → ((asked : List ScriptCall) → P asked → Q (asked ++ x ∷ []) × Q asked)
     → Does (AllAnswered o p a b P h k) old now → Does (AnswersOneSo p q b c x (Err e) k m) now new → Does (BrokenOff o a c Q e h m) old new
 all_break P Q x e o p q a b c h k m old now new on all one =
     let s : AllAnswered o p a b P h k all.0 = all.2 in (
@@ -140,7 +140,7 @@ all_break P Q x e o p q a b c h k m old now new on all one =
       },
     )
   where
-    with_last : (begun : Bool) (asked : List Asked) → Q (asked ++ x ∷ []) × Q asked → Q (asked ++ (if begun then x ∷ [] else []))
+    with_last : (begun : Bool) (asked : List ScriptCall) → Q (asked ++ x ∷ []) × Q asked → Q (asked ++ (if begun then x ∷ [] else []))
     with_last true asked both = both.0
     with_last false asked both = subst Q (sym (append-nil asked)) both.1
 
@@ -158,7 +158,7 @@ left_none (end.Connects number) a b ms events k broken = (refl, took_none k)
 left_none end.Source a b ms events k broken = (refl, took_none k)
 
 -- or between two calls
-pub all_stop : (P Q : List Asked → Type 0) (e : End) (o p : Bool) (a b c : Tally) (h k : Held) (old now new : Seen) → ((asked : List Asked) → P asked → Q asked) → Does (AllAnswered o p a b P h k) old now
+pub all_stop : (P Q : List ScriptCall → Type 0) (e : End) (o p : Bool) (a b c : Tally) (h k : Held) (old now new : Seen) → ((asked : List ScriptCall) → P asked → Q asked) → Does (AllAnswered o p a b P h k) old now
     → Does (Broken b c [] e) now new → Does (BrokenOff o a c Q e h k) old new
 all_stop P Q e o p a b c h k old now new on all stop =
     let s : AllAnswered o p a b P h k all.0 = all.2 in (
@@ -182,7 +182,7 @@ all_stop P Q e o p a b c h k old now new on all stop =
 
 -- for want of memory
 pub memory_stop : (b c : Tally) (old new : Seen) → Does (λ (events : List Event). events ≡ []) old new → Does (Broken b c [] end.Memory) old new
-memory_stop b c old new none = (none.0, none.1, broken_at b c [] end.Memory none.0 (subst IsInTurn (sym none.2) (all_in_turn [] [] refl)) (ap said none.2))
+memory_stop b c old new none = (none.0, none.1, broken_at b c [] end.Memory none.0 (subst IsInTurn (sym none.2) (all_in_turn [] [] refl)) (ap script_marks none.2))
 
 -- the script is over and the share is left
 pub serves_over : (script : Option Coming) (f f' : ℕ) (o p : Bool) (a b c : Tally) (facts : Facts) (why : Over) (h k : Held) (old now new : Seen)

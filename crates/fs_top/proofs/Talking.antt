@@ -7,7 +7,7 @@ use Rattle.smb_link.specs.declared.event.Event.{Event}
 use Rattle.smb_link.specs.Program.{Say}
 use Rattle.fs_plain.specs.View.{Item}
 use Rattle.fs_core.specs.Asking.{flown, landed}
-use Rattle.fs_top.specs.declared.ahead.Asked.{Asked}
+use Rattle.fs_top.specs.declared.ahead.ScriptCall.{ScriptCall}
 use Rattle.fs_top.specs.Talks.{Exchanged, Talks, IsAnswered, EachAnswered}
 use Rattle.fs_top.proofs.Calling.{IsNextOf}
 
@@ -33,7 +33,7 @@ talks_last P number mid message reply a xs next says one i p =
     (record { mid = mid; message = message; reply = reply } ∷ [], (xs, [], sym (append-nil xs), one, next.wish i p, (says i p, refl)))
 
 -- events behind, and a call more
-pub each_behind : (done : List (Asked × Answer)) (xs ys : List Event) → EachAnswered done xs → EachAnswered done (xs ++ ys)
+pub each_behind : (done : List (ScriptCall × Answer)) (xs ys : List Event) → EachAnswered done xs → EachAnswered done (xs ++ ys)
 each_behind [] xs ys each = tt
 each_behind (d ∷ ds) xs ys each = (
   each.0,
@@ -44,7 +44,7 @@ each_behind (d ∷ ds) xs ys each = (
   each_behind ds each.2 ys each.5,
 )
 
-pub each_more : (done : List (Asked × Answer)) (d : Asked × Answer) (xs ys : List Event) → EachAnswered done xs → IsAnswered d ys → EachAnswered (done ++ d ∷ []) (xs ++ ys)
+pub each_more : (done : List (ScriptCall × Answer)) (d : ScriptCall × Answer) (xs ys : List Event) → EachAnswered done xs → IsAnswered d ys → EachAnswered (done ++ d ∷ []) (xs ++ ys)
 each_more [] d xs ys each one = (xs, ys, [], ap (λ (l : List Event). xs ++ l) (sym (append-nil ys)), one, tt)
 each_more (e ∷ es) d xs ys each one = (
   each.0,

@@ -16,7 +16,7 @@ use Rattle.fs_core.specs.declared.wire.Stop.TheVariants as stop
 use Rattle.smb_head.specs.declared.request.Request.{Request}
 use Rattle.fs_core.specs.declared.wire.TheConstants.{MAX_FRAMES}
 use Rattle.fs_core.specs.Course.{Tally, tallied, is_mark, OneByOne, IsInTurn, StopsAt, SendsAtMost}
-use Rattle.fs_top.specs.declared.ahead.Asked.{Asked}
+use Rattle.fs_top.specs.declared.ahead.ScriptCall.{ScriptCall}
 use Rattle.fs_top.specs.declared.ahead.Over.{Over}
 use Rattle.fs_top.specs.declared.ahead.Over.TheVariants as over
 use Rattle.fs_top.specs.declared.run_end.End.{End}
@@ -150,10 +150,10 @@ abbrev pub LeavesSo : Facts → ℕ → Tally → Tally → Result (Unit {0}) En
 LeavesSo facts next before after result events = BothSo (tree_disconnect facts) (logoff facts) next before after result events
 
 -- a call that a line asks for, and its answer
-abbrev pub begins : Asked → Mark
+abbrev pub begins : ScriptCall → Mark
 begins x = mark.Begin x.number x.lane (call.Stat x.path)
 
-abbrev pub answers : Asked → Answer → Mark
+abbrev pub answers : ScriptCall → Answer → Mark
 answers x a = mark.Answer x.number a
 
 -- the error number of a call that the end of the run leaves unanswered
@@ -161,16 +161,16 @@ abbrev pub unanswered : ℕ → Answer
 unanswered number = answer.Err (record { 0 = number }) None
 
 -- the calls that were answered, one after the other, and what is printed of them
-abbrev pub dialogue : List (Asked × Answer) → List Mark
+abbrev pub dialogue : List (ScriptCall × Answer) → List Mark
 dialogue [] = []
 dialogue (done ∷ others) = begins done.0 ∷ answers done.0 done.1 ∷ dialogue others
 
-abbrev pub lines : List (Asked × Answer) → List ℕ
+abbrev pub lines : List (ScriptCall × Answer) → List ℕ
 lines [] = []
 lines (done ∷ others) = line_of done.0.number done.1 ++ lines others
 
 -- one call is begun, answered and printed
-pub record AnswersSo (ended ended' : Bool) (before after : Tally) (x : Asked) (old new : Held) (events : List Event) : Type 0 where
+pub record AnswersSo (ended ended' : Bool) (before after : Tally) (x : ScriptCall) (old new : Held) (events : List Event) : Type 0 where
   pub a : Answer
   pub marks : List Mark
   pub stretch : Stretch before after marks events
@@ -181,7 +181,7 @@ pub record AnswersSo (ended ended' : Bool) (before after : Tally) (x : Asked) (o
 
 -- How a call is left where the run ends before the script: what it said, and what was printed. A lost connection and a wrong frame answer
 -- it; a sink that refuses its line ends the run.
-abbrev pub LeavesCall : End → Asked → List Mark → Held → Held → Type 0
+abbrev pub LeavesCall : End → ScriptCall → List Mark → Held → Held → Type 0
 LeavesCall end.Memory x calls old new = (calls ≡ begins x ∷ []) × TookAll [] old new
 LeavesCall end.Frames x calls old new = (calls ≡ begins x ∷ []) × TookAll [] old new
 LeavesCall end.Sink x calls old new = (a : Answer) × (calls ≡ begins x ∷ answers x a ∷ []) × TookFront (line_of x.number a) old new
@@ -191,19 +191,19 @@ LeavesCall end.Cuts x calls old new = (calls ≡ begins x ∷ answers x (unanswe
 LeavesCall e x calls old new = ⊥
 
 -- the call that is left, if there is one: a sink refuses the line of one
-abbrev pub LeftSo : End → List Asked → List Mark → Held → Held → Type 0
+abbrev pub LeftSo : End → List ScriptCall → List Mark → Held → Held → Type 0
 LeftSo end.Sink [] calls old new = ⊥
 LeftSo e [] calls old new = (calls ≡ []) × TookAll [] old new
 LeftSo e (x ∷ []) calls old new = LeavesCall e x calls old new
 LeftSo e (x ∷ y ∷ more) calls old new = ⊥
 
 -- the calls of these answers
-abbrev pub asked_of : List (Asked × Answer) → List Asked
-asked_of done = map (λ (d : Asked × Answer). d.0) done
+abbrev pub asked_of : List (ScriptCall × Answer) → List ScriptCall
+asked_of done = map (λ (d : ScriptCall × Answer). d.0) done
 
 -- the calls of a script are answered and printed, and of them this holds
-pub record AllAnswered (ended ended' : Bool) (before after : Tally) (P : List Asked → Type 0) (old new : Held) (events : List Event) : Type 0 where
-  pub done : List (Asked × Answer)
+pub record AllAnswered (ended ended' : Bool) (before after : Tally) (P : List ScriptCall → Type 0) (old new : Held) (events : List Event) : Type 0 where
+  pub done : List (ScriptCall × Answer)
   pub marks : List Mark
   pub stretch : Stretch before after marks events
   pub order : ordered ended marks ≡ Some ended'
@@ -213,9 +213,9 @@ pub record AllAnswered (ended ended' : Bool) (before after : Tally) (P : List As
   pub script : P (asked_of done)
 
 -- the run ends before: some calls are answered and printed, the last one may be left, and of all of them this holds
-pub record BrokenOff (ended : Bool) (before after : Tally) (P : List Asked → Type 0) (e : End) (old new : Held) (events : List Event) : Type 0 where
-  pub done : List (Asked × Answer)
-  pub last : List Asked
+pub record BrokenOff (ended : Bool) (before after : Tally) (P : List ScriptCall → Type 0) (e : End) (old new : Held) (events : List Event) : Type 0 where
+  pub done : List (ScriptCall × Answer)
+  pub last : List ScriptCall
   pub marks : List Mark
   pub behind : List Mark
   pub broken : BreaksOff before after marks e events
@@ -227,14 +227,14 @@ pub record BrokenOff (ended : Bool) (before after : Tally) (P : List Asked → T
   pub each : EachAnswered done events
   pub script : P (asked_of done ++ last)
 
-abbrev pub AnswersOneSo : Bool → Bool → Tally → Tally → Asked → Result (Unit {0}) End → Held → Held → List Event → Type 0
+abbrev pub AnswersOneSo : Bool → Bool → Tally → Tally → ScriptCall → Result (Unit {0}) End → Held → Held → List Event → Type 0
 AnswersOneSo ended ended' before after x (Ok u) old new events = AnswersSo ended ended' before after x old new events
 AnswersOneSo ended ended' before after x (Err e) old new events =
     (marks : List Mark) × BreaksOff before after marks e events × IsOrdered ended marks
     × ((begun : Bool) × LeftSo e (if begun then x ∷ [] else []) (calls_in marks) old new)
 
 -- these are the first calls of the script, where its source tells
-abbrev pub IsFrontOf : Option Coming → List Asked → Type 0
+abbrev pub IsFrontOf : Option Coming → List ScriptCall → Type 0
 IsFrontOf script asked = IfSome script (IsFront asked)
 
 -- the end of the script was told, but where it has as many calls as there are numbers
@@ -259,7 +259,7 @@ JoinsSo stood (Err (end.Connects n)) events = (n ≡ 4) × (events ≡ opening s
 JoinsSo stood (Err e) events = (e ≡ end.Memory) × (said events ≡ [])
 
 -- a line's call begins, or not for want of memory
-abbrev pub BeginsSo : {E : Type 0} → Asked → Result (Unit {0}) E → List Event → Type 0
+abbrev pub BeginsSo : {E : Type 0} → ScriptCall → Result (Unit {0}) E → List Event → Type 0
 BeginsSo x (Ok u) events = events ≡ event.Marked (begins x) ∷ []
 BeginsSo x (Err e) events = events ≡ []
 

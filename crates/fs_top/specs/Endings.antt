@@ -4,8 +4,8 @@ use Rattle.std.specs.Fmt.{decimal}
 use Rattle.hex.specs.Hex.{encode_lower, encode_upper}
 use Rattle.fs_top.specs.declared.ending.Ending.{Ending}
 use Rattle.fs_top.specs.declared.ending.Ending.TheVariants.{Greeted, Words, Memory, Dialect, Frame, Connects, Cuts}
-use Rattle.fs_top.specs.declared.ending.Kind.{Kind}
-use Rattle.fs_top.specs.declared.ending.Kind.TheVariants.{Length, Head, Chain, Stranger, Body}
+use Rattle.fs_top.specs.declared.ending.FirstFrameFault.{FirstFrameFault}
+use Rattle.fs_top.specs.declared.ending.FirstFrameFault.TheVariants.{Length, Head, Chain, Stranger, Body}
 
 abbrev pub status_of : Ending → ℕ
 status_of (Greeted greeting) = 0
@@ -16,7 +16,7 @@ status_of (Frame kind) = 5
 status_of Connects = 6
 status_of Cuts = 6
 
-abbrev pub kind_text : Kind → List ℕ
+abbrev pub kind_text : FirstFrameFault → List ℕ
 kind_text Length = codes "length"
 kind_text Head = codes "head"
 kind_text Chain = codes "chain"

@@ -2,8 +2,8 @@
 use Rattle.std.specs.Prelude.{◌≡◌, ◌⊎◌, ℕ, ◌/◌, ◌%◌, List, [], ◌∷◌, ◌++◌, codes}
 use Rattle.std.specs.Fmt.{decimal}
 use Rattle.hex.specs.Hex.{encode_upper}
-use Rattle.fs_core.specs.declared.part.Kind.{Kind}
-use Rattle.fs_core.specs.declared.part.Kind.TheVariants as kind
+use Rattle.fs_core.specs.declared.reply_kind.ReplyFault.{ReplyFault}
+use Rattle.fs_core.specs.declared.reply_kind.ReplyFault.TheVariants as kind
 use Rattle.fs_core.specs.declared.wire.Stop.{Stop}
 use Rattle.fs_core.specs.declared.wire.Stop.TheVariants as stop
 use Rattle.smb_mount.specs.declared.fault.MountFault.{MountFault}
@@ -31,7 +31,7 @@ mount_end fault.NoMemory frames = end.Memory
 mount_end why frames = end.Mount why
 
 -- the word for what is wrong with a frame
-abbrev pub kind_text : Kind → List ℕ
+abbrev pub kind_text : ReplyFault → List ℕ
 kind_text kind.Length = codes "length"
 kind_text kind.Head = codes "head"
 kind_text kind.Chain = codes "chain"

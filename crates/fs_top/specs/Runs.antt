@@ -1,5 +1,5 @@
 -- What the steps of a run lead to.
-use Rattle.std.specs.Prelude.{◌≡◌, ◌≤◌, ◌<◌, ◌+◌, ℕ, Bool, true, false, nat_le, ◌==◌, List, [], ◌∷◌, Option, Some, None, IfSome, Result, Ok, Err}
+use Rattle.std.specs.Prelude.{◌≡◌, ◌≤◌, ◌<◌, ◌+◌, ℕ, Bool, true, false, nat_le, ◌==◌, List, [], ◌∷◌, Option, Some, None, IfSome, Result, Ok, Err, get_or}
 use Rattle.std.specs.List.{list_all, list_any}
 use Rattle.smb_base.specs.declared.names.Fid.{Fid}
 use Rattle.smb_base.specs.declared.names.Mid.{Mid}
@@ -17,11 +17,11 @@ use Rattle.share_spec.specs.PlainShare.{shown}
 use Rattle.smb_link.specs.Program.{Own, Open, Query, Close, Program, Ask, Say, at_path, of_errno, number_of_fault}
 use Rattle.smb_link.specs.Stat.{stat_program, stat_once_open, stat_answer}
 use Rattle.share_spec.specs.declared.share.Share.{Share}
+use Rattle.share_spec.specs.Reply.{fid_of}
 use Rattle.fs_plain.specs.Answered.{ended_by}
 use Rattle.fs_plain.specs.CleanEnd.{Cleared}
 use Rattle.fs_plain.specs.Replay.{Replay}
 use Rattle.fs_plain.specs.View.{Item, View, fids_after, no_view}
-use Rattle.fs_plain.specs.Sends.{nth_fid}
 use Rattle.fs_plain.specs.Moves.{Going, Leads, Leaves, Over, Closes}
 use Rattle.fs_core.specs.declared.wire.Stop.{Stop}
 use Rattle.fs_core.specs.declared.wire.Wire.{Wire}
@@ -30,9 +30,9 @@ use Rattle.fs_core.specs.Foul.{is_foul, foul_stop}
 use Rattle.fs_core.specs.Exchange.{resting}
 use Rattle.fs_core.specs.Asking.{flown, landed, MayRequest}
 use Rattle.fs_top.specs.declared.ahead.Ahead.{Ahead}
-use Rattle.fs_top.specs.declared.ahead.Asked.{Asked}
-use Rattle.fs_top.specs.declared.ahead.Found.{Found}
-use Rattle.fs_top.specs.declared.ahead.Found.TheVariants as found
+use Rattle.fs_top.specs.declared.ahead.ScriptCall.{ScriptCall}
+use Rattle.fs_top.specs.declared.ahead.CallOrOver.{CallOrOver}
+use Rattle.fs_top.specs.declared.ahead.CallOrOver.TheVariants as found
 use Rattle.fs_top.specs.declared.run_end.End.{End}
 use Rattle.fs_top.specs.declared.run_end.End.TheVariants as end
 
@@ -90,16 +90,16 @@ pub record IsAhead (last : ℕ) (a : Ahead) : Type 0 where
   pub more : IfSome a.held (λ x. a.over ≡ None)
 
 -- what lines bring: a call is that of the last line that was read
-abbrev pub IsToldAt : ℕ → Found → Type 0
+abbrev pub IsToldAt : ℕ → CallOrOver → Type 0
 IsToldAt number (found.Call asked) = asked.number ≡ number
 IsToldAt number (found.Over over) = Unit {0}
 
-abbrev pub IsFound : ℕ → ℕ → Found → Type 0
+abbrev pub IsFound : ℕ → ℕ → CallOrOver → Type 0
 IsFound before after (found.Call asked) = (asked.number ≡ after) × (before < after)
 IsFound before after (found.Over over) = Unit {0}
 
 -- what one line brings; where it brings nothing one line more was read
-abbrev pub IsFoundLine : ℕ → ℕ → Option Found → Type 0
+abbrev pub IsFoundLine : ℕ → ℕ → Option CallOrOver → Type 0
 IsFoundLine before after None = before < after
 IsFoundLine before after (Some x) = IsFound before after x
 
@@ -146,7 +146,7 @@ IsStatOpened opened i = (i.rest ≡ stat_once_open run_options (shown opened)) �
 
 -- the file id stays the first, whatever a later reply gives
 abbrev pub IsFirst : Fid → List Fid → Type 0
-IsFirst fid fids = (nth_fid 0 fids ≡ fid) × ((reply : Rep) → nth_fid 0 (fids_after reply fids) ≡ fid)
+IsFirst fid fids = (get_or fids 0 (fid_of 0) ≡ fid) × ((reply : Rep) → get_or (fids_after reply fids) 0 (fid_of 0) ≡ fid)
 
 abbrev pub IsStatOpen : Fid → Item → Type 0
 IsStatOpen fid i =
@@ -154,7 +154,7 @@ IsStatOpen fid i =
 
 abbrev pub IsStatKnown : Fid → Rep → Item → Type 0
 IsStatKnown fid info i =
-    (i.rest ≡ Ask (Close (Own 0)) (λ closed. Say (stat_answer run_options (shown info)))) × (nth_fid 0 i.fids ≡ fid)
+    (i.rest ≡ Ask (Close (Own 0)) (λ closed. Say (stat_answer run_options (shown info)))) × (get_or i.fids 0 (fid_of 0) ≡ fid)
 
 -- a path as the share has it: then a call goes on with it; or its fault, which is the call's answer
 abbrev pub IsPathOnShare : List ℕ → Result (List ℕ) NameFault → Type 0
@@ -207,7 +207,7 @@ AnswersLine number (Err e) before after old new =
     → Finishes seed e (resting [] begun before) old new
 
 -- a line's call is begun
-abbrev pub BeginsLine : {E : Type 0} → Asked → Result (Unit {0}) E → Option (List Event) → Option (List Event) → Type 0
+abbrev pub BeginsLine : {E : Type 0} → ScriptCall → Result (Unit {0}) E → Option (List Event) → Option (List Event) → Type 0
 BeginsLine asked (Ok x) old new = Gains (event.Marked (mark.Begin asked.number asked.lane (call.Stat asked.path)) ∷ []) old new
 BeginsLine asked (Err e) old new = Gains [] old new
 

@@ -7,9 +7,9 @@ use Rattle.fs_lines.specs.Told.{Reading, ahead}
 use Rattle.fs_script.specs.declared.line.LineFault.{LineFault}
 use Rattle.fs_script.specs.Lines.{is_skip, words_of, fault_of}
 use Rattle.fs_top.specs.declared.ahead.Ahead.{Ahead}
-use Rattle.fs_top.specs.declared.ahead.Asked.{Asked}
-use Rattle.fs_top.specs.declared.ahead.Found.{Found}
-use Rattle.fs_top.specs.declared.ahead.Found.TheVariants as found
+use Rattle.fs_top.specs.declared.ahead.ScriptCall.{ScriptCall}
+use Rattle.fs_top.specs.declared.ahead.CallOrOver.{CallOrOver}
+use Rattle.fs_top.specs.declared.ahead.CallOrOver.TheVariants as found
 use Rattle.fs_top.specs.declared.ahead.Over as overs
 use Rattle.fs_top.specs.declared.ahead.Over.TheVariants as over
 use Rattle.fs_top.specs.declared.run_end.End.{End}
@@ -21,18 +21,18 @@ lines_of [] = []
 lines_of (b ∷ bs) = if b == 10 then [] ∷ lines_of bs else onto_first b (lines_of bs)
 
 -- what a line asks for: nothing, the `stat` of a path, or what is refused
-pub data Wanted : Type 0 where
-  Nothing : Wanted
-  Stat : List ℕ → Wanted
-  Refused : Wanted
+pub data LineWants : Type 0 where
+  Nothing : LineWants
+  Stat : List ℕ → LineWants
+  Refused : LineWants
 
 -- an empty line and a comment ask for nothing; the path of a call is the third word of its line
-abbrev pub wanted_unless : Option LineFault → List ℕ → Wanted
+abbrev pub wanted_unless : Option LineFault → List ℕ → LineWants
 wanted_unless (Some fault) line = Refused
 wanted_unless None line = if is_skip line then Nothing else Stat (slice_index_or (words_of line) 2 [])
 
 -- a line that is not UTF-8, is too long or is outside the grammar is refused
-abbrev pub wanted_by : List ℕ → Wanted
+abbrev pub wanted_by : List ℕ → LineWants
 wanted_by line = if is_utf8 line then wanted_unless (fault_of line) line else Refused
 
 -- the greatest number of a line
@@ -40,22 +40,22 @@ abbrev pub greatest : ℕ
 greatest = 2 ^ 64 - 1
 
 -- what the line with this number asks for: the one with the greatest number is refused
-abbrev pub wanted_at : ℕ → List ℕ → Wanted
+abbrev pub wanted_at : ℕ → List ℕ → LineWants
 wanted_at number line = if nat_lt number greatest then wanted_by line else Refused
 
 -- a line's call goes before those of the later lines; after a line that is refused no call comes
-abbrev pub calls_then : Wanted → ℕ → List Asked → List Asked
+abbrev pub calls_then : LineWants → ℕ → List ScriptCall → List ScriptCall
 calls_then Nothing number later = later
 calls_then (Stat path) number later = record { number = number; lane = 0; path = path } ∷ later
 calls_then Refused number later = []
 
 -- the calls of these lines, of which the first has this number, up to the first line that is refused
-abbrev pub calls_from : ℕ → List (List ℕ) → List Asked
+abbrev pub calls_from : ℕ → List (List ℕ) → List ScriptCall
 calls_from number [] = []
 calls_from number (line ∷ lines) = calls_then (wanted_at number line) number (calls_from (number + 1) lines)
 
 -- a line that is refused is why no more calls come
-abbrev pub over_then : Wanted → ℕ → overs.Over → overs.Over
+abbrev pub over_then : LineWants → ℕ → overs.Over → overs.Over
 over_then Nothing number later = later
 over_then (Stat path) number later = later
 over_then Refused number later = over.Line number
@@ -67,7 +67,7 @@ over_from number (line ∷ lines) = over_then (wanted_at number line) number (ov
 
 -- calls that are still to come, and why no more come after them
 pub record Coming : Type 0 where
-  pub calls : List Asked
+  pub calls : List ScriptCall
   pub over : overs.Over
 
 -- what these lines ask for, of which the first has this number
@@ -87,7 +87,7 @@ abbrev pub coming_ahead : Reading → List ℕ → Coming
 coming_ahead reading left = coming_behind reading.number (lines_of (ahead reading left))
 
 -- a call that is held comes first
-abbrev pub held_then : Option Asked → Coming → Coming
+abbrev pub held_then : Option ScriptCall → Coming → Coming
 held_then None later = later
 held_then (Some asked) later = record { calls = asked ∷ later.calls; over = later.over }
 
@@ -122,22 +122,22 @@ abbrev pub IsHeldOrOver : Ahead → Type 0
 IsHeldOrOver a = IsSome a.held ⊎ IsSome a.over
 
 -- What lines brought is what was to come first, unless the source failed.
-abbrev pub Brings : Found → Option Coming → Option Coming → Type 0
+abbrev pub Brings : CallOrOver → Option Coming → Option Coming → Type 0
 Brings (found.Over over.Source) before after = Unit {0}
 Brings (found.Over why) before after = before ≡ option_map (unless_over (Some why)) after
 Brings (found.Call asked) before after = before ≡ option_map (held_then (Some asked)) after
 
 -- a line that asks for nothing leaves what is to come
-abbrev pub LineBrings : Option Found → Option Coming → Option Coming → Type 0
+abbrev pub LineBrings : Option CallOrOver → Option Coming → Option Coming → Type 0
 LineBrings None before after = before ≡ after
 LineBrings (Some x) before after = Brings x before after
 
 -- the source failed
-abbrev pub is_source : Found → Bool
+abbrev pub is_source : CallOrOver → Bool
 is_source (found.Over over.Source) = true
 is_source other = false
 
-abbrev pub is_source_line : Option Found → Bool
+abbrev pub is_source_line : Option CallOrOver → Bool
 is_source_line None = false
 is_source_line (Some x) = is_source x
 
@@ -146,7 +146,7 @@ is_source_by test (Ok x) = test x
 is_source_by test (Err e) = false
 
 -- what a line with this number brings, by what it asks for
-abbrev pub brought : Wanted → ℕ → Option Found
+abbrev pub brought : LineWants → ℕ → Option CallOrOver
 brought Nothing number = None
 brought (Stat path) number = Some (found.Call (record { number = number; lane = 0; path = path }))
 brought Refused number = Some (found.Over (over.Line number))

@@ -5,7 +5,7 @@ use Rattle.smb_link.specs.declared.event.Event.TheVariants.{Got, Quiet, Cut}
 use Rattle.smb_head.specs.Stream.{First, Partial, Whole, Bad, first_of}
 use Rattle.fs_top.specs.declared.ending.Ending.{Ending}
 use Rattle.fs_top.specs.declared.ending.Ending.TheVariants.{Memory, Frame, Cuts}
-use Rattle.fs_top.specs.declared.ending.Kind.TheVariants.{Length}
+use Rattle.fs_top.specs.declared.ending.FirstFrameFault.TheVariants.{Length}
 use Rattle.smb_link.specs.Came.{Seen, Came}
 use Rattle.fs_core.specs.Course.{bytes_got, quiets_at_end}
 use Rattle.fs_top.specs.Verdict.{MessageEnds}

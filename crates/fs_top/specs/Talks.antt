@@ -15,7 +15,7 @@ use Rattle.fs_plain.specs.View.{Item, rest_after, fids_after}
 use Rattle.fs_plain.specs.Sends.{IsWish}
 use Rattle.fs_core.specs.Judged.{Says}
 use Rattle.fs_core.specs.Course.{bytes_got, Decides, request_in, is_unsent}
-use Rattle.fs_top.specs.declared.ahead.Asked.{Asked}
+use Rattle.fs_top.specs.declared.ahead.ScriptCall.{ScriptCall}
 use Rattle.fs_top.specs.Runs.{IsStat}
 
 -- a request of a call and what its reply says
@@ -50,13 +50,13 @@ abbrev pub Talks : (Item → Type 0) → ℕ → Answer → List Event → Type 
 Talks P number a events = (i : Item) → P i → (xs : List Exchange) × TalksTo number i.rest i.fids a xs events
 
 -- the `stat` of a line was begun, carried out in these exchanges, and answered by what they came to
-pub record IsAnswered (done : Asked × Answer) (events : List Event) : Type 0 where
+pub record IsAnswered (done : ScriptCall × Answer) (events : List Event) : Type 0 where
   pub went : List Event
   pub are : events ≡ event.Marked (mark.Begin done.0.number done.0.lane (Stat done.0.path)) ∷ (went ++ event.Marked (mark.Answer done.0.number done.1) ∷ [])
   pub talks : Talks (IsStat done.0.path) done.0.number done.1 went
 
 -- each of these calls has a piece of the events, one behind the other
-abbrev pub EachAnswered : List (Asked × Answer) → List Event → Type 0
+abbrev pub EachAnswered : List (ScriptCall × Answer) → List Event → Type 0
 EachAnswered [] events = Unit {0}
 EachAnswered (done ∷ others) events =
     (before : List Event) × (one : List Event) × (behind : List Event) × (events ≡ before ++ (one ++ behind)) × IsAnswered done one × EachAnswered others behind

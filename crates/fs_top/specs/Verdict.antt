@@ -1,5 +1,6 @@
 -- What the messages of the first frame say to a NEGOTIATE request with message id 0 (MS-SMB2 3.2.5.2).
 use Rattle.std.specs.Prelude.{◌≡◌, ◌==◌, ◌&&◌, ◌⊎◌, ℕ, List, Bool, if◌then◌else◌, MatchBool, Option, Some, None, Result, Ok, Err, bit_and}
+use Rattle.smb_head.specs.declared.command.TheConstants.{NEGOTIATE}
 use Rattle.smb_head.specs.declared.head.Head.{Head}
 use Rattle.smb_head.specs.declared.head.HeadFault.{HeadFault}
 use Rattle.smb_head.specs.Header.{head_of}
@@ -11,8 +12,8 @@ use Rattle.smb_body_c.specs.Error.{IsErrorReply}
 use Rattle.fs_top.specs.declared.ending.Ending.{Ending}
 use Rattle.fs_top.specs.declared.ending.Ending.TheVariants.{Greeted, Words, Memory, Dialect, Frame, Connects, Cuts}
 use Rattle.fs_top.specs.declared.ending.Greeting.{Greeting}
-use Rattle.fs_top.specs.declared.ending.Kind as kinds
-use Rattle.fs_top.specs.declared.ending.Kind.TheVariants as kind
+use Rattle.fs_top.specs.declared.ending.FirstFrameFault as kinds
+use Rattle.fs_top.specs.declared.ending.FirstFrameFault.TheVariants as kind
 
 -- a head with the reply flag (MS-SMB2 2.2.1.2, SERVER_TO_REDIR)
 abbrev pub is_reply : Head → Bool
@@ -27,7 +28,7 @@ abbrev pub answer_of : NegotiateReply → Ending
 answer_of x = if x.dialect == 0x0210 then Greeted (greeting_of x) else Dialect x.dialect
 
 -- what is wrong with a second message of the frame: the one request is answered by then
-abbrev pub second_kind : Result Head HeadFault → Step → kinds.Kind
+abbrev pub second_kind : Result Head HeadFault → Step → kinds.FirstFrameFault
 second_kind (Err fault) step = kind.Head
 second_kind (Ok head) Bad = kind.Chain
 second_kind (Ok head) (Only part) = kind.Stranger
@@ -54,7 +55,7 @@ RefusalEnds part rest ending =
 abbrev pub ReplyEnds : Head → List ℕ → Option (List ℕ) → Ending → Type 0
 ReplyEnds head part rest ending =
     MatchBool (head.mid.0 == 0)
-    (MatchBool (head.command == 0 && is_reply head)
+    (MatchBool (head.command == NEGOTIATE && is_reply head)
     (MatchBool (head.status.0 == 0) (GreetingEnds part rest ending) (RefusalEnds part rest ending))
     (ending ≡ Frame kind.Body))
     (ending ≡ Frame kind.Stranger)

@@ -20,7 +20,7 @@ use std::alloc::Global;
 
 /// A call that a line asks for.
 #[derive(Debug, Drop)]
-pub struct Asked {
+pub struct ScriptCall {
     /// The line's number.
     pub number: u64,
     /// Its lane.
@@ -44,7 +44,7 @@ pub enum Over {
 #[derive(Drop)]
 pub struct Ahead {
     pub(crate) lines: Lines,
-    pub(crate) held: Option<Asked>,
+    pub(crate) held: Option<ScriptCall>,
     pub(crate) over: Option<Over>,
 }
 
@@ -84,11 +84,11 @@ impl Ahead {
             return Ok(());
         }
         match next_call(alloc, &mut self.lines, input) {
-            Ok(Found::Call(asked)) => {
+            Ok(CallOrOver::Call(asked)) => {
                 self.held = Some(asked);
                 Ok(())
             }
-            Ok(Found::Over(over)) => {
+            Ok(CallOrOver::Over(over)) => {
                 self.over = Some(over);
                 end(link)
             }
@@ -97,7 +97,7 @@ impl Ahead {
     }
 
     /// Takes the call that is held.
-    pub fn take(&mut self) -> Option<Asked>
+    pub fn take(&mut self) -> Option<ScriptCall>
         ensures taken { IfSome result (λ x. (last : ℕ) → IsAhead last self.old → (last < x.number) × IsAhead x.number self.new) }
         ensures more { IfSome result (λ x. (last : ℕ) → IsAhead last self.old → self.new.over ≡ None) }
         ensures none { IfNone result ((last : ℕ) → IsAhead last self.old → IsAhead last self.new) }
@@ -119,13 +119,13 @@ impl Ahead {
 }
 
 // What the next lines bring.
-enum Found {
-    Call(Asked),
+enum CallOrOver {
+    Call(ScriptCall),
     Over(Over),
 }
 
 // Reads lines up to one that asks for a call.
-fn next_call<S: Source>(alloc: Global, lines: &mut Lines, input: &mut S) -> Result<Found, NoMemory>
+fn next_call<S: Source>(alloc: Global, lines: &mut Lines, input: &mut S) -> Result<CallOrOver, NoMemory>
     ensures found { IfOk result (IsFound lines.old.number lines.new.number) }
     ensures on { lines.old.number ≤ lines.new.number }
     ensures brings { IfOk result (λ found. Brings found (lines_to_come lines.old (S.left input.old)) (lines_to_come lines.new (S.left input.new))) }
@@ -138,7 +138,7 @@ fn next_call<S: Source>(alloc: Global, lines: &mut Lines, input: &mut S) -> Resu
             Err(NoMemory) => return Err(NoMemory),
         }
     }
-    Ok(Found::Over(Over::Line(u64::MAX)))
+    Ok(CallOrOver::Over(Over::Line(u64::MAX)))
 }
 
 // What the next line brings; nothing where it asks for nothing.
@@ -146,7 +146,7 @@ fn next_line<S: Source>(
     alloc: Global,
     lines: &mut Lines,
     input: &mut S,
-) -> Result<Option<Found>, NoMemory>
+) -> Result<Option<CallOrOver>, NoMemory>
     requires { lines.old.number < 2 ^ 64 - 1 }
     ensures found { IfOk result (IsFoundLine lines.old.number lines.new.number) }
     ensures on { lines.old.number ≤ lines.new.number }
@@ -154,32 +154,32 @@ fn next_line<S: Source>(
     ensures faults { S.faults input.new ≡ counted (S.faults input.old) (is_source_by is_source_line result) }
 {
     match lines.next(input) {
-        NextLine::Line(text) => told(alloc, lines.number(), &text),
-        NextLine::NotText => Ok(Some(Found::Over(Over::Line(lines.number())))),
-        NextLine::TooLong => Ok(Some(Found::Over(Over::Line(lines.number())))),
-        NextLine::End => Ok(Some(Found::Over(Over::End))),
-        NextLine::Failed => Ok(Some(Found::Over(Over::Source))),
+        NextLine::Line(text) => call_of_line(alloc, lines.number(), &text),
+        NextLine::NotText => Ok(Some(CallOrOver::Over(Over::Line(lines.number())))),
+        NextLine::TooLong => Ok(Some(CallOrOver::Over(Over::Line(lines.number())))),
+        NextLine::End => Ok(Some(CallOrOver::Over(Over::End))),
+        NextLine::Failed => Ok(Some(CallOrOver::Over(Over::Source))),
         NextLine::NoMemory => Err(NoMemory),
     }
 }
 
 // What a line with this number brings. The line with the greatest number is refused.
-fn told(alloc: Global, number: u64, text: &Text) -> Result<Option<Found>, NoMemory>
+fn call_of_line(alloc: Global, number: u64, text: &Text) -> Result<Option<CallOrOver>, NoMemory>
     ensures at { IfOk result (λ found. IfSome found (IsToldAt number)) }
     ensures brings { IfOk result (λ found. found ≡ brought (wanted_at number text.now) number) }
 {
     if number == u64::MAX {
-        return Ok(Some(Found::Over(Over::Line(number))));
+        return Ok(Some(CallOrOver::Over(Over::Line(number))));
     }
     match read_line(alloc, text.as_str()) {
         Ok(Line::Call(lane, Call::Stat(path))) => {
-            Ok(Some(Found::Call(Asked { number, lane, path })))
+            Ok(Some(CallOrOver::Call(ScriptCall { number, lane, path })))
         }
-        Ok(Line::Call(_, _)) => Ok(Some(Found::Over(Over::Line(number)))),
+        Ok(Line::Call(_, _)) => Ok(Some(CallOrOver::Over(Over::Line(number)))),
         Ok(Line::Skip) => Ok(None),
         Ok(Line::Wait) => Ok(None),
         Err(LineFault::NoMemory) => Err(NoMemory),
-        Err(_) => Ok(Some(Found::Over(Over::Line(number)))),
+        Err(_) => Ok(Some(CallOrOver::Over(Over::Line(number)))),
     }
 }
 

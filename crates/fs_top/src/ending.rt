@@ -23,7 +23,7 @@ pub struct Greeting {
 
 /// What is wrong with a frame: the first of these that stands.
 #[derive(Clone, Copy, Debug, PartialEq, Eq)]
-pub enum Kind {
+pub enum FirstFrameFault {
     /// Its first byte is not zero, or it is too long.
     Length,
     /// One of its messages has no header.
@@ -48,7 +48,7 @@ pub enum Ending {
     /// The server chose another dialect, or refused with 0: status 4.
     Dialect(u16),
     /// The first frame is not a NEGOTIATE reply: status 5.
-    Frame(Kind),
+    Frame(FirstFrameFault),
     /// The connection could not be made: status 6.
     Connects,
     /// The connection was lost, or nothing came for too long: status 6.
@@ -112,15 +112,15 @@ fn dialect_text(alloc: Global, dialect: u16) -> Result<Text, NoMemory>
 }
 
 /// The line of a bad frame.
-fn frame_text(alloc: Global, kind: Kind) -> Result<Text, NoMemory>
+fn frame_text(alloc: Global, kind: FirstFrameFault) -> Result<Text, NoMemory>
     ensures { IfOk result (λ text. text ≡ text_of (Ending.Frame kind)) }
 {
     let word = match kind {
-        Kind::Length => "length",
-        Kind::Head => "head",
-        Kind::Chain => "chain",
-        Kind::Stranger => "stranger",
-        Kind::Body => "body",
+        FirstFrameFault::Length => "length",
+        FirstFrameFault::Head => "head",
+        FirstFrameFault::Chain => "chain",
+        FirstFrameFault::Stranger => "stranger",
+        FirstFrameFault::Body => "body",
     };
     let text = format!(in alloc; "fault 5 frame 1 {word}\n")?;
     Ok(Text::of_string(text))

@@ -4,7 +4,7 @@
 mod ahead;
 #[cfg(test)]
 mod ahead_tests;
-mod call;
+mod stat;
 mod client;
 mod ending;
 mod listen;
@@ -26,6 +26,6 @@ mod top;
 mod verdict;
 mod words;
 
-pub use ending::{Ending, Greeting, Kind};
+pub use ending::{Ending, Greeting, FirstFrameFault};
 pub use run_end::End;
 pub use top::smbfs;

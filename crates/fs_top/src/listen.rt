@@ -7,7 +7,7 @@ ghost use Rattle.smb_link.specs.Came.{seen_by, Came};
 ghost use Rattle.fs_top.specs.Tale.{FirstEnds, Heard};
 ghost use Rattle.fs_top.specs.Verdict.{EndsWait};
 
-use crate::ending::{Ending, Kind};
+use crate::ending::{Ending, FirstFrameFault};
 use crate::verdict::judge;
 use smb_head::{FrameFault, Frames};
 use smb_link::{Got, Link};
@@ -58,6 +58,6 @@ fn take_in(frames: &mut Frames, piece: &[u8]) -> Option<Ending>
         Ok(Some(message)) => Some(judge(message.as_slice())),
         Ok(None) => None,
         Err(FrameFault::NoMemory) => Some(Ending::Memory),
-        Err(_) => Some(Ending::Frame(Kind::Length)),
+        Err(_) => Some(Ending::Frame(FirstFrameFault::Length)),
     }
 }

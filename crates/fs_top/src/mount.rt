@@ -14,7 +14,7 @@ ghost use Rattle.fs_top.specs.Course.{StepsSo, AsksSo, TellsSo, BothSo, LeavesSo
 
 use crate::client::{Client, PATIENCE};
 use crate::run_end::End;
-use fs_core::{Kind, ask};
+use fs_core::{ReplyFault, ask};
 use smb_base::{Bytes, NoMemory, Units};
 use smb_head::Request;
 use smb_link::{Clock, Link, LinkFail};
@@ -121,7 +121,7 @@ fn negotiate<L: Link, C: Clock>(
         Ok(request) => request,
         Err(NoMemory) => return Err(End::Memory),
     };
-    let part = match asked(alloc, link, clock, client, &request) {
+    let part = match aside_reply(alloc, link, clock, client, &request) {
         Ok(part) => part,
         Err(end) => return Err(end),
     };
@@ -150,7 +150,7 @@ fn set_up<L: Link, C: Clock>(
         Ok(request) => request,
         Err(NoMemory) => return Err(End::Memory),
     };
-    let part = match asked(alloc, link, clock, client, &request) {
+    let part = match aside_reply(alloc, link, clock, client, &request) {
         Ok(part) => part,
         Err(end) => return Err(end),
     };
@@ -179,7 +179,7 @@ fn authenticate<L: Link, C: Clock>(
         Ok(request) => request,
         Err(NoMemory) => return Err(End::Memory),
     };
-    let part = match asked(alloc, link, clock, client, &request) {
+    let part = match aside_reply(alloc, link, clock, client, &request) {
         Ok(part) => part,
         Err(end) => return Err(end),
     };
@@ -207,7 +207,7 @@ fn connect_tree<L: Link, C: Clock>(
         Ok(request) => request,
         Err(NoMemory) => return Err(End::Memory),
     };
-    let part = match asked(alloc, link, clock, client, &request) {
+    let part = match aside_reply(alloc, link, clock, client, &request) {
         Ok(part) => part,
         Err(end) => return Err(end),
     };
@@ -250,14 +250,14 @@ fn leave_by<L: Link, C: Clock>(
         → RestsOrLeaves result client.old.wire.next client.new.wire.next (L.story link.old) (L.story link.new) }
     ensures came { Does (BothSo first.now second.now client.old.wire.next (tally_of client.old.wire) (tally_of client.new.wire) result) (seen_by L.story L.connect_faults L.cuts L.quiets link.old) (seen_by L.story L.connect_faults L.cuts L.quiets link.new) }
 {
-    match told(alloc, link, clock, client, first) {
-        Ok(()) => told(alloc, link, clock, client, second),
+    match aside_done(alloc, link, clock, client, first) {
+        Ok(()) => aside_done(alloc, link, clock, client, second),
         Err(end) => Err(end),
     }
 }
 
 // Sends a request of the connection itself, and waits for its reply, whatever that says.
-fn told<L: Link, C: Clock>(
+fn aside_done<L: Link, C: Clock>(
     alloc: Global,
     link: &mut L,
     clock: &mut C,
@@ -272,14 +272,14 @@ fn told<L: Link, C: Clock>(
     ensures next { IfOk result (λ _. client.new.wire.next ≡ client.old.wire.next + 1) }
     ensures ready { IfOk result (λ _. IsReady client.new.wire) }
 {
-    match asked(alloc, link, clock, client, request) {
+    match aside_reply(alloc, link, clock, client, request) {
         Ok(_part) => Ok(()),
         Err(end) => Err(end),
     }
 }
 
 // Sends a request of the connection itself, and gives its reply.
-fn asked<L: Link, C: Clock>(
+fn aside_reply<L: Link, C: Clock>(
     alloc: Global,
     link: &mut L,
     clock: &mut C,
@@ -316,7 +316,7 @@ fn end_of(fault: MountFault, frames: u32) -> End
     ensures { result ≡ mount_end fault frames }
 {
     match fault {
-        MountFault::Malformed(_) => End::Frame(frames, Kind::Body),
+        MountFault::Malformed(_) => End::Frame(frames, ReplyFault::Body),
         MountFault::NoMemory => End::Memory,
         refusal => End::Mount(refusal),
     }

@@ -5,6 +5,7 @@ ghost use Rattle.fs_top.specs.Request.{ping_frame};
 
 use smb_base::{Mid, NoMemory, Status};
 use smb_body_a::{NegotiateRequest, write_negotiate_request};
+use smb_head::command::NEGOTIATE;
 use smb_head::{Head, Route, frame_start, write_head};
 use smb_le::HeadFlags;
 use std::alloc::Global;
@@ -19,7 +20,7 @@ pub fn request_frame(alloc: Global, seed: [u8; 16]) -> Result<Vec<u8>, NoMemory>
     let head = Head {
         charge: 0,
         status: Status::SUCCESS,
-        command: 0,
+        command: NEGOTIATE,
         credits: 32,
         flags: HeadFlags(0),
         next: 0,

@@ -21,8 +21,8 @@ ghost use Rattle.fs_top.specs.Runs.{IsReady, IsAhead, Finishes, AnswersLine, Ans
 ghost use Rattle.fs_top.specs.Script.{end_by, over_of, coming_of, to_come};
 ghost use Rattle.fs_top.specs.Progress.{reads_by, ReadsOn};
 
-use crate::ahead::{Asked, Over};
-use crate::call::stat;
+use crate::ahead::{ScriptCall, Over};
+use crate::stat::stat;
 use crate::client::Client;
 use crate::mount::{join, leave, mount};
 use crate::print::put_all;
@@ -209,7 +209,7 @@ fn answer_one<S: Source, K: Sink, L: Link, C: Clock>(
     clock: &mut C,
     client: &mut Client,
     facts: &Facts,
-    asked: Asked,
+    asked: ScriptCall,
 ) -> Result<(), End>
     requires ready { IsReady client.old.wire }
     requires more { client.old.ahead.over ≡ None }
@@ -242,7 +242,7 @@ fn answer_one<S: Source, K: Sink, L: Link, C: Clock>(
 }
 
 // Puts the mark of a call's beginning into the story.
-fn begin<L: Link>(alloc: Global, link: &mut L, asked: &Asked) -> Result<(), NoMemory>
+fn begin<L: Link>(alloc: Global, link: &mut L, asked: &ScriptCall) -> Result<(), NoMemory>
     ensures begins { BeginsLine asked.now result (L.story link.old) (L.story link.new) }
     ensures came { Does (BeginsSo asked.now result) (seen_by L.story L.connect_faults L.cuts L.quiets link.old) (seen_by L.story L.connect_faults L.cuts L.quiets link.new) }
 {

@@ -6,7 +6,7 @@ ghost use Rattle.fs_top.specs.RunEndings.{end_of, kind_text, refused_text, mount
 ghost use Rattle.fs_top.specs.declared.run_end.End.TheVariants as end;
 ghost use Rattle.smb_mount.specs.declared.fault.MountFault.TheVariants as fault;
 
-use fs_core::{Kind, Stop};
+use fs_core::{ReplyFault, Stop};
 use smb_base::{NoMemory, Status, Text};
 use smb_mount::MountFault;
 use std::alloc::Global;
@@ -23,7 +23,7 @@ pub enum End {
     /// The server refused the mount: status 4.
     Mount(MountFault),
     /// The frame with this number was wrong: status 5.
-    Frame(u32, Kind),
+    Frame(u32, ReplyFault),
     /// As many connects in a row failed: status 6.
     Connects(u32),
     /// The connection was lost, or nothing came for too long: status 6.
@@ -101,7 +101,7 @@ fn connects_text(alloc: Global, number: u32) -> Result<Text, NoMemory>
     Ok(Text::of_string(text))
 }
 
-fn frame_text(alloc: Global, number: u32, kind: Kind) -> Result<Text, NoMemory>
+fn frame_text(alloc: Global, number: u32, kind: ReplyFault) -> Result<Text, NoMemory>
     ensures { IfOk result (λ text. text ≡ text_of (end.Frame number kind)) }
 {
     let word = kind_word(kind);
@@ -109,17 +109,17 @@ fn frame_text(alloc: Global, number: u32, kind: Kind) -> Result<Text, NoMemory>
     Ok(Text::of_string(text))
 }
 
-fn kind_word(kind: Kind) -> &'static str
+fn kind_word(kind: ReplyFault) -> &'static str
     ensures { result.now ≡ kind_text kind }
 {
     match kind {
-        Kind::Length => "length",
-        Kind::Head => "head",
-        Kind::Chain => "chain",
-        Kind::Stranger => "stranger",
-        Kind::Body => "body",
-        Kind::Info => "info",
-        Kind::Credit => "credit",
+        ReplyFault::Length => "length",
+        ReplyFault::Head => "head",
+        ReplyFault::Chain => "chain",
+        ReplyFault::Stranger => "stranger",
+        ReplyFault::Body => "body",
+        ReplyFault::Info => "info",
+        ReplyFault::Credit => "credit",
     }
 }
 

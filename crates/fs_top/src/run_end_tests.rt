@@ -1,7 +1,7 @@
 //! The line that is printed last, at each end of a run.
 
 use super::*;
-use fs_core::Kind as Fault;
+use fs_core::ReplyFault as Fault;
 use smb_base::Status;
 use smb_mount::MountFault;
 

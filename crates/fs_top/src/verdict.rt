@@ -6,7 +6,7 @@ ghost use Rattle.smb_head.specs.Header.{head_of};
 ghost use Rattle.smb_chain.specs.Parts.{step_of};
 ghost use Rattle.fs_top.specs.Verdict.{MessageEnds, ReplyEnds, GreetingEnds, RefusalEnds, is_reply, second_kind, unless_more, answer_of, EndsWait};
 
-use crate::ending::{Ending, Greeting, Kind};
+use crate::ending::{Ending, Greeting, FirstFrameFault};
 use bitflags::Flags;
 use smb_base::{Mid, Status};
 use smb_body_a::{NegotiateReply, read_negotiate_reply};
@@ -25,11 +25,11 @@ pub fn judge(message: &[u8]) -> Ending
 {
     let head = match read_head(message) {
         Ok(head) => head,
-        Err(_) => return Ending::Frame(Kind::Head),
+        Err(_) => return Ending::Frame(FirstFrameFault::Head),
     };
     match first_part(message) {
         Ok((part, rest)) => judge_reply(&head, part, rest),
-        Err(_) => Ending::Frame(Kind::Chain),
+        Err(_) => Ending::Frame(FirstFrameFault::Chain),
     }
 }
 
@@ -40,10 +40,10 @@ fn judge_reply(head: &Head, part: &[u8], rest: Option<&[u8]>) -> Ending
     ensures ends_wait { EndsWait result }
 {
     if head.mid != Mid(0) {
-        return Ending::Frame(Kind::Stranger);
+        return Ending::Frame(FirstFrameFault::Stranger);
     }
     if head.command != 0 || !head.flags.contains(HeadFlags::REPLY) {
-        return Ending::Frame(Kind::Body);
+        return Ending::Frame(FirstFrameFault::Body);
     }
     if head.status == Status::SUCCESS {
         judge_greeting(part, rest)
@@ -60,7 +60,7 @@ fn judge_greeting(part: &[u8], rest: Option<&[u8]>) -> Ending
 {
     match read_negotiate_reply(part) {
         Ok(reply) => last_unless(rest, answer(&reply)),
-        Err(_) => Ending::Frame(Kind::Body),
+        Err(_) => Ending::Frame(FirstFrameFault::Body),
     }
 }
 
@@ -72,7 +72,7 @@ fn judge_refusal(part: &[u8], rest: Option<&[u8]>) -> Ending
 {
     match read_error_reply(part) {
         Ok(_) => last_unless(rest, Ending::Dialect(0)),
-        Err(_) => Ending::Frame(Kind::Body),
+        Err(_) => Ending::Frame(FirstFrameFault::Body),
     }
 }
 
@@ -106,14 +106,14 @@ fn last_unless(rest: Option<&[u8]>, ending: Ending) -> Ending
 }
 
 /// What is wrong with a second message.
-fn second(rest: &[u8]) -> Kind
+fn second(rest: &[u8]) -> FirstFrameFault
     ensures { result ≡ second_kind (head_of rest.now) (step_of rest.now) }
 {
     if read_head(rest).is_err() {
-        return Kind::Head;
+        return FirstFrameFault::Head;
     }
     match first_part(rest) {
-        Ok(_) => Kind::Stranger,
-        Err(_) => Kind::Chain,
+        Ok(_) => FirstFrameFault::Stranger,
+        Err(_) => FirstFrameFault::Chain,
     }
 }

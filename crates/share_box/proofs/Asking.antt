@@ -6,6 +6,7 @@ use Rattle.std.proofs.lemmas.Bool.{false≢true}
 use Rattle.smb_base.specs.declared.names.Fid.{Fid}
 use Rattle.smb_base.specs.declared.names.Key.{Key}
 use Rattle.smb_base.specs.declared.names.Status.{Status}
+use Rattle.smb_head.specs.declared.command.TheConstants.{CREATE, CLOSE, QUERY_INFO}
 use Rattle.smb_head.specs.declared.head.Head.{Head}
 use Rattle.smb_head.specs.declared.head.HeadFault.{HeadFault}
 use Rattle.smb_head.specs.Header.{head_of}
@@ -20,7 +21,7 @@ use Rattle.share_spec.specs.declared.request.Req.{Req}
 use Rattle.share_spec.specs.declared.request.Req.TheVariants as req
 use Rattle.share_spec.specs.State.{has}
 use Rattle.fs_plain.specs.Wire.{has_body, bytes_at}
-use Rattle.fs_plain.specs.Requests.{Asked, fid_at, create_with, is_create, create_asked, close_asked, is_query, query_asked, is_aside, by_command, asked_with, asked}
+use Rattle.fs_plain.specs.Requests.{WireRequest, fid_at, create_with, is_create, create_asked, close_asked, is_query, query_asked, is_aside, by_command, asked_with, wire_request}
 use Rattle.fs_plain.specs.World.{is_creating, refusal_before, resolved, refused_before}
 use Rattle.share_box.specs.declared.serving.Plan.{Plan}
 use Rattle.share_box.specs.declared.serving.Plan.TheVariants as plan
@@ -29,7 +30,7 @@ use Rattle.share_box.specs.Paid.{is_refusal, is_outcome}
 
 -- a Create, by its command
 pub record IsCreate (command : ℕ) (r : Req) : Type 0 where
-  pub by : command ≡ 5
+  pub by : command ≡ CREATE
   pub path : List ℕ
   pub access : ℕ
   pub share : ℕ
@@ -42,13 +43,13 @@ pub record IsCreate (command : ℕ) (r : Req) : Type 0 where
 
 -- a Close
 pub record IsClose (command : ℕ) (r : Req) : Type 0 where
-  pub by : command ≡ 6
+  pub by : command ≡ CLOSE
   pub fid : Fid
   pub is : r ≡ req.Close fid
 
 -- a Query
 pub record IsQuery (command : ℕ) (r : Req) : Type 0 where
-  pub by : command ≡ 16
+  pub by : command ≡ QUERY_INFO
   pub fid : Fid
   pub is : r ≡ req.Query fid
 
@@ -57,18 +58,18 @@ abbrev pub Fits : ℕ → Req → Type 0
 Fits command r = IsCreate command r ⊎ (IsClose command r ⊎ IsQuery command r)
 
 -- what is asked for is a request of the share
-abbrev Is : Option Asked → Bool → Req → Type 0
-Is o related r = o ≡ Some (Asked.Share related r)
+abbrev Is : Option WireRequest → Bool → Req → Type 0
+Is o related r = o ≡ Some (WireRequest.Share related r)
 
-taken_is : (t related rel : Bool) (q r : Req) → Is (if t then Some (Asked.Share related q) else None) rel r → r ≡ q
+taken_is : (t related rel : Bool) (q r : Req) → Is (if t then Some (WireRequest.Share related q) else None) rel r → r ≡ q
 taken_is true related rel q r h = cc
 taken_is false related rel q r h = absurd (cc h)
 
-not_first : (t rel : Bool) (o : Option Asked) (r : Req) → Is (if t then None else o) rel r → Is o rel r
+not_first : (t rel : Bool) (o : Option WireRequest) (r : Req) → Is (if t then None else o) rel r → Is o rel r
 not_first true rel o r h = absurd (cc h)
 not_first false rel o r h = h
 
-only_then : (t rel : Bool) (o : Option Asked) (r : Req) → Is (if t then o else None) rel r → Is o rel r
+only_then : (t rel : Bool) (o : Option WireRequest) (r : Req) → Is (if t then o else None) rel r → Is o rel r
 only_then true rel o r h = h
 only_then false rel o r h = absurd (cc h)
 
@@ -108,14 +109,14 @@ same command n h = elim (eqb_tells command n) [
 -- a message of a command asks for a request of it
 fits : (command : ℕ) (related rel : Bool) (m : List ℕ) (r : Req) → Is (by_command command related m) rel r → Fits command r
 fits command related rel m r h =
-    by (command == 5) (command == 6) (command == 16) (is_aside command m) (create_asked related m) (close_asked related m) (query_asked related m)
+    by (command == CREATE) (command == CLOSE) (command == QUERY_INFO) (is_aside command m) (create_asked related m) (close_asked related m) (query_asked related m)
     (λ t is. inl (subst (λ (c : ℕ). IsCreate c r) (sym (same command 5 t)) (create_is related rel m r is)))
     (λ t is. inr (inl (subst (λ (c : ℕ). IsClose c r) (sym (same command 6 t)) (close_is related rel m r is))))
     (λ t is. inr (inr (subst (λ (c : ℕ). IsQuery c r) (sym (same command 16 t)) (query_is related rel m r is)))) h
   where
-    by : (a b c d : Bool) (x y z : Option Asked) → (a ≡ true → Is x rel r → Fits command r) → (b ≡ true → Is y rel r → Fits command r)
+    by : (a b c d : Bool) (x y z : Option WireRequest) → (a ≡ true → Is x rel r → Fits command r) → (b ≡ true → Is y rel r → Fits command r)
         → (c ≡ true → Is z rel r → Fits command r)
-        → Is (if a then x else if b then y else if c then z else if d then Some Asked.Aside else None) rel r → Fits command r
+        → Is (if a then x else if b then y else if c then z else if d then Some WireRequest.Aside else None) rel r → Fits command r
     by true b c d x y z f g k h = f refl h
     by false true c d x y z f g k h = g refl h
     by false false true d x y z f g k h = k refl h
@@ -133,7 +134,7 @@ pub record HasRequest (m : List ℕ) (r : Req) : Type 0 where
   pub is : head_of m ≡ Ok head
   pub fits : Fits head.command r
 
-has_head : (m : List ℕ) (a : Asked) (read : Result Head HeadFault) → head_of m ≡ read → asked_with read m ≡ Some a → HasHead m
+has_head : (m : List ℕ) (a : WireRequest) (read : Result Head HeadFault) → head_of m ≡ read → asked_with read m ≡ Some a → HasHead m
 has_head m a (Err fault) is h = absurd (cc h)
 has_head m a (Ok head) is h = record { head = head; is = is }
 
@@ -142,12 +143,12 @@ has_request m rel r (Err fault) is h = absurd (cc h)
 has_request m rel r (Ok head) is h =
     record { head = head; is = is; fits = fits head.command (has head.flags.0 4) rel m r (not_first (has head.flags.0 1) rel _ r h) }
 
-pub asked_head : (m : List ℕ) (a : Asked) → asked m ≡ Some a → HasHead m
-unfolding asked
+pub asked_head : (m : List ℕ) (a : WireRequest) → wire_request m ≡ Some a → HasHead m
+unfolding wire_request
 asked_head m a h = has_head m a (head_of m) refl h
 
-asked_request : (m : List ℕ) (rel : Bool) (r : Req) → Is (asked m) rel r → HasRequest m r
-unfolding asked
+asked_request : (m : List ℕ) (rel : Bool) (r : Req) → Is (wire_request m) rel r → HasRequest m r
+unfolding wire_request
 asked_request m rel r h = has_request m rel r (head_of m) refl h
 
 -- a related request stays one of its command
@@ -159,13 +160,13 @@ follows_create last.Nothing true path access share disposition options attribute
 follows_create (last.Opened fid) true path access share disposition options attributes lease durable = refl
 follows_create (last.Refused status) true path access share disposition options attributes lease durable = refl
 
-follows_close : (command : ℕ) (before : LastCreate) (related : Bool) (fid : Fid) → command ≡ 6 → IsClose command (resolved related before (req.Close fid))
+follows_close : (command : ℕ) (before : LastCreate) (related : Bool) (fid : Fid) → command ≡ CLOSE → IsClose command (resolved related before (req.Close fid))
 follows_close command before false fid by = record { by = by; fid = fid; is = refl }
 follows_close command last.Nothing true fid by = record { by = by; fid = fid; is = refl }
 follows_close command (last.Opened its) true fid by = record { by = by; fid = its; is = refl }
 follows_close command (last.Refused status) true fid by = record { by = by; fid = fid; is = refl }
 
-follows_query : (command : ℕ) (before : LastCreate) (related : Bool) (fid : Fid) → command ≡ 16 → IsQuery command (resolved related before (req.Query fid))
+follows_query : (command : ℕ) (before : LastCreate) (related : Bool) (fid : Fid) → command ≡ QUERY_INFO → IsQuery command (resolved related before (req.Query fid))
 follows_query command before false fid by = record { by = by; fid = fid; is = refl }
 follows_query command last.Nothing true fid by = record { by = by; fid = fid; is = refl }
 follows_query command (last.Opened its) true fid by = record { by = by; fid = its; is = refl }
@@ -195,10 +196,10 @@ plan_does None q r h = cc
 plan_does (Some status) q r h = absurd (cc h)
 
 -- what is to be done on the share for a message is a request of its command
-does : (m : List ℕ) (before : LastCreate) (o : Option Asked) (r : Req) → asked m ≡ o → planned before o ≡ Some (plan.Do r) → HasRequest m r
+does : (m : List ℕ) (before : LastCreate) (o : Option WireRequest) (r : Req) → wire_request m ≡ o → planned before o ≡ Some (plan.Do r) → HasRequest m r
 does m before None r is h = absurd (cc h)
-does m before (Some Asked.Aside) r is h = absurd (cc h)
-does m before (Some (Asked.Share related q)) r is h =
+does m before (Some WireRequest.Aside) r is h = absurd (cc h)
+does m before (Some (WireRequest.Share related q)) r is h =
     let there : HasRequest m q = asked_request m related q is in
     let made : plan_by (refused_before related before q) (resolved related before q) ≡ plan.Do r = cc in
     record {
@@ -210,16 +211,16 @@ does m before (Some (Asked.Share related q)) r is h =
 
 pub plan_does_own : (one : Sent) (r : Req) → plan_of one ≡ Some (plan.Do r) → HasRequest one.message r
 unfolding plan_of
-plan_does_own one r h = does one.message one.last_create (asked one.message) r refl h
+plan_does_own one r h = does one.message one.last_create (wire_request one.message) r refl h
 
 -- a plan is made only for a message with a header
-plans : (m : List ℕ) (before : LastCreate) (o : Option Asked) (p : Plan) → asked m ≡ o → planned before o ≡ Some p → HasHead m
+plans : (m : List ℕ) (before : LastCreate) (o : Option WireRequest) (p : Plan) → wire_request m ≡ o → planned before o ≡ Some p → HasHead m
 plans m before None p is h = absurd (cc h)
 plans m before (Some a) p is h = asked_head m a is
 
 pub plan_has_head : (one : Sent) (p : Plan) → plan_of one ≡ Some p → HasHead one.message
 unfolding plan_of
-plan_has_head one p h = plans one.message one.last_create (asked one.message) p refl h
+plan_has_head one p h = plans one.message one.last_create (wire_request one.message) p refl h
 
 plan_refuses : (refusal : Option ℕ) (q : Req) (status : Status) → plan_by refusal q ≡ plan.Refuse status → refusal ≡ Some status.0
 plan_refuses None q status h = absurd (cc h)
@@ -235,14 +236,14 @@ before_refuses true (last.Refused own) status h outcome =
     let whole : own.0 ≡ status = cc in
     subst (λ (n : ℕ). is_refusal n ≡ true) whole outcome
 
-refuses : (before : LastCreate) (o : Option Asked) (status : Status) → planned before o ≡ Some (plan.Refuse status) → is_outcome before ≡ true → is_refusal status.0 ≡ true
+refuses : (before : LastCreate) (o : Option WireRequest) (status : Status) → planned before o ≡ Some (plan.Refuse status) → is_outcome before ≡ true → is_refusal status.0 ≡ true
 refuses before None status h outcome = absurd (cc h)
-refuses before (Some Asked.Aside) status h outcome = absurd (cc h)
-refuses before (Some (Asked.Share related q)) status h outcome =
+refuses before (Some WireRequest.Aside) status h outcome = absurd (cc h)
+refuses before (Some (WireRequest.Share related q)) status h outcome =
     let made : plan_by (refused_before related before q) (resolved related before q) ≡ plan.Refuse status = cc in
     before_refuses (related && not (is_creating q)) before status.0 (plan_refuses (refused_before related before q) (resolved related before q) status made) outcome
 
 -- a request is refused before the share looks at it only with a status with which a CREATE is
 pub plan_refuses_so : (one : Sent) (status : Status) → plan_of one ≡ Some (plan.Refuse status) → is_outcome one.last_create ≡ true → is_refusal status.0 ≡ true
 unfolding plan_of
-plan_refuses_so one status h outcome = refuses one.last_create (asked one.message) status h outcome
+plan_refuses_so one status h outcome = refuses one.last_create (wire_request one.message) status h outcome

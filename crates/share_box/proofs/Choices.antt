@@ -7,6 +7,7 @@ use Rattle.std.proofs.lemmas.Bool.Decides.{eqb_tells}
 use Rattle.smb_base.specs.declared.names.Key.{Key}
 use Rattle.smb_base.specs.declared.names.Mid.{Mid}
 use Rattle.smb_le.specs.Numbers.{number_at}
+use Rattle.smb_head.specs.declared.command.TheConstants.{CREATE}
 use Rattle.smb_head.specs.declared.head.Head.{Head}
 use Rattle.smb_head.specs.declared.head.HeadFault.{HeadFault}
 use Rattle.smb_head.specs.Header.{head_of}
@@ -32,7 +33,7 @@ use Rattle.share_spec.specs.Step.{step_of}
 use Rattle.smb_link.specs.declared.event.Event.{Event}
 use Rattle.smb_link.specs.declared.event.Event.TheVariants as event
 use Rattle.fs_plain.specs.Wire.{has_body}
-use Rattle.fs_plain.specs.Requests.{Asked, asked}
+use Rattle.fs_plain.specs.Requests.{WireRequest, wire_request}
 use Rattle.fs_plain.specs.Replies.{Pays, command_of, answers, reply_of, reply_by_status, reply_with, reply_in, opened_in, is_interim, interim_with, is_interim_of, is_aside_by_status, aside_with, is_aside_reply, notice_with, IsNotice}
 use Rattle.fs_plain.specs.World.{us, grant_in, requests_in, messages_in, messages_got, sent_with, resolved, refused_before, unless_refused_before, choice_now, after_sent, after_done, after_taking, after_took_of, after_pend_of, notices, breakable, happens}
 use Rattle.fs_plain.specs.Ahead.{still_to_come, is_final, choice_of, is_opened, choice_among, ahead}
@@ -93,7 +94,7 @@ bare_if false b choice is = refl
 none_told : (head : Result Head HeadFault) (message : List ℕ) → opened_in message ≡ None → IsBare (told_by head message)
 none_told (Err fault) message none = refl
 none_told (Ok head) message none =
-    bare_if (head.command == 5) (head.status.0 == 0) (choice_of (opened_in message)) (λ c s. subst (λ (o : Option RepBody). IsBare (choice_of o)) (sym none) refl)
+    bare_if (head.command == CREATE) (head.status.0 == 0) (choice_of (opened_in message)) (λ c s. subst (λ (o : Option RepBody). IsBare (choice_of o)) (sym none) refl)
 
 if_some : (t : Bool) (x : Option Rep) (reply : Rep) → (if t then x else None) ≡ Some reply → (t ≡ true) × (x ≡ Some reply)
 if_some true x reply is = (refl, is)
@@ -111,7 +112,7 @@ reply_told (Ok head) mid request message reply bare is =
     let found : ((answers mid request head && not (is_interim head)) ≡ true) × (reply_by_status head.status.0 (command_of request) message ≡ Some reply) =
     if_some (answers mid request head && not (is_interim head)) (reply_by_status head.status.0 (command_of request) message) reply is in
     let same : head.command ≡ command_of request = is_number head.command (command_of request) (and_right _ _ (and_left _ _ found.0)) in
-    bare_if (head.command == 5) (head.status.0 == 0) (choice_of (opened_in message)) (λ c s.
+    bare_if (head.command == CREATE) (head.status.0 == 0) (choice_of (opened_in message)) (λ c s.
     let body : reply_by_status 0 5 message ≡ Some reply =
     subst (λ (n : ℕ). reply_by_status 0 n message ≡ Some reply) (sym same ∙ is_number head.command 5 c)
     (subst (λ (n : ℕ). reply_by_status n (command_of request) message ≡ Some reply) (is_number head.status.0 0 s) found.1) in
@@ -127,7 +128,7 @@ aside_told (Err fault) mid request message is = refl
 aside_told (Ok head) mid request message is =
     let same : head.command ≡ command_of request =
     is_number head.command (command_of request) (and_right _ _ (and_left (answers mid request head) _ (and_left (answers mid request head && not (is_interim head)) _ is))) in
-    bare_if (head.command == 5) (head.status.0 == 0) (choice_of (opened_in message)) (λ c s.
+    bare_if (head.command == CREATE) (head.status.0 == 0) (choice_of (opened_in message)) (λ c s.
     let body : is_aside_by_status 0 5 message ≡ true =
     subst (λ (n : ℕ). is_aside_by_status 0 n message ≡ true) (sym same ∙ is_number head.command 5 c)
     (subst (λ (n : ℕ). is_aside_by_status n (command_of request) message ≡ true) (is_number head.status.0 0 s)
@@ -205,15 +206,15 @@ done_passes s x r None r' choice =
     (ap (λ (c : Connection). c.owed ++ owed.Reply x.mid x.message (step_of choice s us r').0 ∷ []) leaves) (step_grants choice s us r')
 done_passes s x r (Some status) r' choice = one_more_owed s _ (owed.Reply x.mid x.message (of_status status)) refl refl refl
 
-taking_passes : (s : Share) (x : Sent) (a : Option Asked) → Passes s (after_taking a x s)
+taking_passes : (s : Share) (x : Sent) (a : Option WireRequest) → Passes s (after_taking a x s)
 taking_passes s x None = same_passes s s refl refl
-taking_passes s x (Some Asked.Aside) = one_more_owed s _ (owed.Aside x.mid x.message) refl refl tt
-taking_passes s x (Some (Asked.Share related r)) =
+taking_passes s x (Some WireRequest.Aside) = one_more_owed s _ (owed.Aside x.mid x.message) refl refl tt
+taking_passes s x (Some (WireRequest.Share related r)) =
     done_passes s x r (refused_before related x.last_create r) (resolved related x.last_create r) (choice_now s.grants)
 
 took_passes : (s : Share) (found : Option Sent) → Passes s (after_took_of found s)
 took_passes s None = same_passes s s refl refl
-took_passes s (Some x) = taking_passes s x (asked x.message)
+took_passes s (Some x) = taking_passes s x (wire_request x.message)
 
 pend_passes : (s : Share) (mid : Mid) (found : Option Sent) → Passes s (after_pend_of found mid s)
 pend_passes s mid None = same_passes s s refl refl

@@ -10,7 +10,7 @@ use Rattle.smb_head.specs.declared.head.HeadFault.TheVariants.{Short}
 use Rattle.smb_head.specs.Header.{head_of}
 use Rattle.smb_chain.specs.Parts.{Step, Only, Then, Bad, is_bad_next, step_at, step_of, step_from, with_rest, parts_of}
 use Rattle.smb_chain.proofs.PartLaws.{length-then, parts_of-part, parts_of-bad, parts_of-step}
-use Rattle.fs_plain.specs.Requests.{asked_with, asked}
+use Rattle.fs_plain.specs.Requests.{asked_with, wire_request}
 use Rattle.fs_plain.specs.World.{mid_of, first_mid, requests_among}
 
 short_head : (message : List ℕ) → length message < 64 → head_of message ≡ Err Short
@@ -18,8 +18,8 @@ unfolding head_of
 short_head message short = grind arith
 
 -- fewer bytes than a header has ask for nothing
-pub short_asks_nothing : (message : List ℕ) → length message < 64 → asked message ≡ None
-unfolding asked
+pub short_asks_nothing : (message : List ℕ) → length message < 64 → wire_request message ≡ None
+unfolding wire_request
 short_asks_nothing message short = ap (λ (h : Result Head HeadFault). asked_with h message) (short_head message short)
 
 short_step : (message : List ℕ) → length message < 64 → step_of message ≡ Only message

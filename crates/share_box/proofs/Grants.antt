@@ -19,9 +19,9 @@ created : (reply : Rep) → IsRefused reply ⊎ IsOpened reply → GrantsNothing
 created reply (inl r) = refused_grants reply r
 created reply (inr o) = subst (λ (x : Rep). GrantsNothing x.body) (sym o.is) (refl, refl)
 
-told : (reply : Rep) → IsRefused reply ⊎ IsTold reply → GrantsNothing reply.body
-told reply (inl r) = refused_grants reply r
-told reply (inr t) = subst (λ (x : Rep). GrantsNothing x.body) (sym t.is) tt
+told_grants : (reply : Rep) → IsRefused reply ⊎ IsTold reply → GrantsNothing reply.body
+told_grants reply (inl r) = refused_grants reply r
+told_grants reply (inr t) = subst (λ (x : Rep). GrantsNothing x.body) (sym t.is) tt
 
 ended : (reply : Rep) → IsRefused reply ⊎ (reply ≡ of_status 0) → GrantsNothing reply.body
 ended reply (inl r) = refused_grants reply r
@@ -32,7 +32,7 @@ pub step_grants : (s : Share) (who : Who) (r : Req) → GrantsNothing (step_of N
 step_grants s who (req.Create path access share disposition options attributes lease durable) =
     created _ (create_shape s who path (record { access = access; share = share; disposition = disposition; options = options; attributes = attributes }))
 step_grants s who (req.Close fid) = ended _ (close_shape s who fid)
-step_grants s who (req.Query fid) = told _ (query_shape s who fid)
+step_grants s who (req.Query fid) = told_grants _ (query_shape s who fid)
 step_grants s who other = tt
 
 -- nor does its reply say so

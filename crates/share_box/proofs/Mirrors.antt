@@ -6,6 +6,7 @@ use Rattle.std.proofs.lemmas.List.{take-append-drop}
 use Rattle.smb_base.specs.declared.names.Mid.{Mid}
 use Rattle.smb_base.specs.declared.names.Fid.{Fid}
 use Rattle.smb_le.specs.Numbers.{number_at}
+use Rattle.smb_head.specs.declared.command.TheConstants.{CREATE, CLOSE, QUERY_INFO}
 use Rattle.smb_head.specs.Stream.{Partial, first_of, fault_of}
 use Rattle.smb_head.proofs.FrameLaws.{first_of-nil}
 use Rattle.smb_head.specs.declared.head.Head.{Head}
@@ -25,16 +26,16 @@ use Rattle.share_spec.specs.declared.request.Req.{Req}
 use Rattle.share_spec.specs.declared.request.Req.TheVariants as req
 use Rattle.share_spec.specs.declared.request.Rep.{Rep}
 use Rattle.share_spec.specs.declared.share.Share.{Share}
-use Rattle.share_spec.specs.Reply.{of_status}
+use Rattle.share_spec.specs.Reply.{of_status, map_fid}
 use Rattle.share_spec.specs.State.{has}
 use Rattle.share_spec.specs.Built.{is_built}
 use Rattle.share_spec.specs.Step.{step_of}
-use Rattle.share_spec.specs.Sent.{sent_but}
+use Rattle.share_spec.specs.Sent.{sent_but, behind_create}
 use Rattle.share_spec.specs.Cut.{ends_with, after_cut, after_join}
 use Rattle.smb_link.specs.declared.event.Event.TheVariants as event
 use Rattle.fs_plain.specs.Wire.{has_body, bytes_at, units_in}
-use Rattle.fs_plain.specs.Requests.{Asked, fid_at, wanted_lease, share_request, create_with, is_create, create_asked, close_asked, is_query, query_asked, is_aside, by_command, asked_with, asked}
-use Rattle.fs_plain.specs.World.{us, grant_in, waiting, messages_of, first_mid, requests_among, requests_in, after_sent, sent_with, is_first_of_frame, with_fid, followed, is_creating, refusal_before, resolved, refused_before, unless_refused_before, came_to, behind_create, after_create, choices_left, choice_now, after_done, after_aside, after_taking, after_took_of, act_of, after_got, happens}
+use Rattle.fs_plain.specs.Requests.{WireRequest, fid_at, wanted_lease, share_request, create_with, is_create, create_asked, close_asked, is_query, query_asked, is_aside, by_command, asked_with, wire_request}
+use Rattle.fs_plain.specs.World.{us, grant_in, waiting, messages_of, first_mid, requests_among, requests_in, after_sent, sent_with, is_first_of_frame, followed, is_creating, refusal_before, resolved, refused_before, unless_refused_before, came_to, after_create, choices_left, choice_now, after_done, after_aside, after_taking, after_took_of, act_of, after_got, happens}
 use Rattle.fs_plain.specs.Honest.{MayBeDone, MayBeTakenAs, MayTake, MayAct, MayGet, MayHappen}
 use Rattle.fs_plain.specs.Related.{bare}
 use Rattle.fs_plain.proofs.PlainTree.{bare_of}
@@ -51,7 +52,7 @@ use Rattle.share_box.proofs.Streams.{Front, front, may_be_held, one_more_payment
 use Rattle.share_box.proofs.Choices.{every_both, closed_connection}
 
 -- a frame is sent: its messages that ask for something wait
-request_if : (frame : Mid) (message : List ℕ) (none : Bool) (others : List Sent) → is_none (asked message) ≡ none → AllByRecursion IsRequest others
+request_if : (frame : Mid) (message : List ℕ) (none : Bool) (others : List Sent) → is_none (wire_request message) ≡ none → AllByRecursion IsRequest others
     → AllByRecursion IsRequest (if none then others else waiting frame message ∷ others)
 request_if frame message true others is all = all
 request_if frame message false others is all = (record { asks = is; proper = record { own = refl; outcome = refl } }, all)
@@ -60,7 +61,7 @@ all_requests : (frame : Mid) (parts : List (Result (List ℕ) BadNext)) → AllB
 all_requests frame [] = tt
 all_requests frame (Err bad ∷ parts) = all_requests frame parts
 all_requests frame (Ok message ∷ parts) =
-    request_if frame message (is_none (asked message)) (requests_among frame parts) refl (all_requests frame parts)
+    request_if frame message (is_none (wire_request message)) (requests_among frame parts) refl (all_requests frame parts)
 
 pub sent_mirrors : (told own : Share) (waits frame : List ℕ) → own.connected ≡ true → Mirrors told own waits
     → Mirrors (after_sent frame told) (record own { sent = own.sent ++ requests_in frame }) waits
@@ -168,16 +169,16 @@ act_mirrors told own waits who r another built old =
     )
 
 -- a message asks for what the share takes
-abbrev IsBuiltIn : Option Asked → Type 0
+abbrev IsBuiltIn : Option WireRequest → Type 0
 IsBuiltIn None = Unit {0}
-IsBuiltIn (Some Asked.Aside) = Unit {0}
-IsBuiltIn (Some (Asked.Share related r)) = is_built r ≡ true
+IsBuiltIn (Some WireRequest.Aside) = Unit {0}
+IsBuiltIn (Some (WireRequest.Share related r)) = is_built r ≡ true
 
-built_if : (t : Bool) (a b : Option Asked) → IsBuiltIn a → IsBuiltIn b → IsBuiltIn (if t then a else b)
+built_if : (t : Bool) (a b : Option WireRequest) → IsBuiltIn a → IsBuiltIn b → IsBuiltIn (if t then a else b)
 built_if true a b is is' = is
 built_if false a b is is' = is'
 
-built_given : (related : Bool) (r : Req) (t : Bool) → is_built r ≡ t → IsBuiltIn (if t then Some (Asked.Share related r) else None)
+built_given : (related : Bool) (r : Req) (t : Bool) → is_built r ≡ t → IsBuiltIn (if t then Some (WireRequest.Share related r) else None)
 built_given related r true is = is
 built_given related r false is = tt
 
@@ -195,24 +196,24 @@ built_create related message (Ok set) = built_if (is_some set.reclaim) None (sha
 
 built_command : (command : ℕ) (related : Bool) (message : List ℕ) → IsBuiltIn (by_command command related message)
 built_command command related message =
-    built_if (command == 5) (create_asked related message) _ (built_if (is_create message) _ None (built_create related message _) tt)
-    (built_if (command == 6) (close_asked related message) _ (built_if (has_body 24 message) (share_request related (req.Close (fid_at 72 message))) None (built_request related (req.Close (fid_at 72 message))) tt)
-    (built_if (command == 16) (query_asked related message) _ (built_if (is_query message) (share_request related (req.Query (fid_at 88 message))) None (built_request related (req.Query (fid_at 88 message))) tt)
-    (built_if (is_aside command message) (Some Asked.Aside) None tt tt)))
+    built_if (command == CREATE) (create_asked related message) _ (built_if (is_create message) _ None (built_create related message _) tt)
+    (built_if (command == CLOSE) (close_asked related message) _ (built_if (has_body 24 message) (share_request related (req.Close (fid_at 72 message))) None (built_request related (req.Close (fid_at 72 message))) tt)
+    (built_if (command == QUERY_INFO) (query_asked related message) _ (built_if (is_query message) (share_request related (req.Query (fid_at 88 message))) None (built_request related (req.Query (fid_at 88 message))) tt)
+    (built_if (is_aside command message) (Some WireRequest.Aside) None tt tt)))
 
 built_with : (head : Result Head HeadFault) (message : List ℕ) → IsBuiltIn (asked_with head message)
 built_with (Err fault) message = tt
 built_with (Ok head) message = built_if (has head.flags.0 1) None _ tt (built_command head.command (has head.flags.0 4) message)
 
-asked_built : (message : List ℕ) → IsBuiltIn (asked message)
-unfolding asked
+asked_built : (message : List ℕ) → IsBuiltIn (wire_request message)
+unfolding wire_request
 asked_built message = built_with (head_of message) message
 
 -- a related request stays what it is, but for its file id
 abbrev IsAlike : Req → Req → Type 0
 IsAlike r' r = (is_creating r' ≡ is_creating r) × (is_built r' ≡ is_built r)
 
-with_fid_alike : (fid : Fid) (r : Req) → IsAlike (with_fid fid r) r
+with_fid_alike : (fid : Fid) (r : Req) → IsAlike (map_fid (λ own. fid) r) r
 with_fid_alike fid (req.Create path access share disposition options attributes lease durable) = (refl, refl)
 with_fid_alike fid (req.Close a) = (refl, refl)
 with_fid_alike fid (req.Flush a) = (refl, refl)
@@ -277,13 +278,13 @@ behind_request frame reply x true outcome is = record { asks = is.asks; proper =
 behind_request frame reply x false outcome is = is
 
 behind_requests : (frame : Mid) (reply : Rep) (sent : List Sent) → is_outcome (came_to reply reply.body) ≡ true → AllByRecursion IsRequest sent
-    → AllByRecursion IsRequest (map (behind_create frame reply) sent)
+    → AllByRecursion IsRequest (map (behind_create frame (came_to reply reply.body)) sent)
 behind_requests frame reply [] outcome all = tt
 behind_requests frame reply (x ∷ xs) outcome all =
     (behind_request frame reply x (x.frame.0 == frame.0) outcome all.0, behind_requests frame reply xs outcome all.1)
 
 created_requests : (creating : Bool) (frame : Mid) (reply : Rep) (sent : List Sent) → (creating ≡ true → is_outcome (came_to reply reply.body) ≡ true) → AllByRecursion IsRequest sent
-    → AllByRecursion IsRequest (if creating then map (behind_create frame reply) sent else sent)
+    → AllByRecursion IsRequest (if creating then map (behind_create frame (came_to reply reply.body)) sent else sent)
 created_requests true frame reply sent outcome all = behind_requests frame reply sent (outcome refl) all
 created_requests false frame reply sent outcome all = all
 
@@ -345,7 +346,7 @@ refused_takes told own waits one others r status old is plain = record {
   leases = old.leases;
   own_leases = old.own_leases;
   connected = old.connected;
-  sent = ap (λ (t : Bool). if t then map (behind_create one.frame (of_status status)) (sent_but one.mid told.sent) else sent_but one.mid told.sent) plain
+  sent = ap (λ (t : Bool). if t then map (behind_create one.frame (came_to (of_status status) (of_status status).body)) (sent_but one.mid told.sent) else sent_but one.mid told.sent) plain
       ∙ but_first one others told.sent (old.sent ∙ is);
   requests = left_requests one others own.sent is old.requests;
   held = refl;
@@ -372,7 +373,7 @@ step_takes told own waits one others r r' old is creating built =
       leases = leaves.1 old.leases;
       own_leases = leaves'.1 old.own_leases;
       connected = ap (λ (c : Connection). c.connected) leaves.0 ∙ old.connected ∙ sym (ap (λ (c : Connection). c.connected) leaves'.0);
-      sent = ap (λ (t : Bool). if t then map (behind_create one.frame done.0) (sent_but one.mid done.1.sent) else sent_but one.mid done.1.sent) (sym creating)
+      sent = ap (λ (t : Bool). if t then map (behind_create one.frame (came_to done.0 done.0.body)) (sent_but one.mid done.1.sent) else sent_but one.mid done.1.sent) (sym creating)
           ∙ ap (λ (l : List Sent). after_create r' one.frame done.0 l) sent
           ∙ ap (λ (d : Rep). after_create r' one.frame d done'.1.sent) reply;
       requests = created_requests (is_creating r') one.frame done'.0 done'.1.sent (create_outcome (without one others own) us r')
@@ -388,10 +389,10 @@ may_share : (told own : Share) (waits : List ℕ) (r : Req) (refusal : Option �
 may_share told own waits r None old = (no_needs told us r old.leases, bare_allowed (choice_now told.grants) told us r (now_bare told.grants old.choices))
 may_share told own waits r (Some status) old = tt
 
-may_be_taken : (told own : Share) (waits : List ℕ) (before : LastCreate) (a : Option Asked) → Mirrors told own waits → is_none a ≡ false → MayBeTakenAs a before told
+may_be_taken : (told own : Share) (waits : List ℕ) (before : LastCreate) (a : Option WireRequest) → Mirrors told own waits → is_none a ≡ false → MayBeTakenAs a before told
 may_be_taken told own waits before None old asks = absurd (cc asks)
-may_be_taken told own waits before (Some Asked.Aside) old asks = tt
-may_be_taken told own waits before (Some (Asked.Share related r)) old asks = may_share told own waits (resolved related before r) (refused_before related before r) old
+may_be_taken told own waits before (Some WireRequest.Aside) old asks = tt
+may_be_taken told own waits before (Some (WireRequest.Share related r)) old asks = may_share told own waits (resolved related before r) (refused_before related before r) old
 
 -- the oldest request that waits may be taken
 pub may_take : (told own : Share) (waits : List ℕ) (one : Sent) (others : List Sent) → Mirrors told own waits → own.sent ≡ one ∷ others
@@ -399,7 +400,7 @@ pub may_take : (told own : Share) (waits : List ℕ) (one : Sent) (others : List
 may_take told own waits one others old is =
     let request : IsRequest one = (subst (AllByRecursion IsRequest) is old.requests).0 in
     subst (λ (found : Option Sent). MayTake found told) (sym (found_first one others told.sent (old.sent ∙ is)))
-    (is_first one others told.sent (old.sent ∙ is), may_be_taken told own waits one.last_create (asked one.message) old request.asks)
+    (is_first one others told.sent (old.sent ∙ is), may_be_taken told own waits one.last_create (wire_request one.message) old request.asks)
 
 -- what comes of it
 sharing : (told own : Share) (b : State) (one : Sent) (others : List Sent) (r r' : Req) (refusal : Option ℕ) → Mirrors told own b.waiting → own.sent ≡ one ∷ others
@@ -413,14 +414,14 @@ sharing told own b one others r r' None old is proper plain creating built pays 
 sharing told own b one others r r' (Some status) old is proper plain creating built pays =
     takes_mirrors told _ _ _ b.waiting _ (refused_takes told own b.waiting one others r status old is (plain status refl)) old.begun old.paid old.choices (pays proper)
 
-taking : (told own : Share) (b : State) (one : Sent) (others : List Sent) (a : Option Asked) → Mirrors told own b.waiting → own.sent ≡ one ∷ others
+taking : (told own : Share) (b : State) (one : Sent) (others : List Sent) (a : Option WireRequest) → Mirrors told own b.waiting → own.sent ≡ one ∷ others
     → IsProper one → is_none a ≡ false → IsBuiltIn a → PaysAs (planned one.last_create a) one (record b { share = without one others own })
     → Mirrors (after_taking a one told) (answered_as (planned one.last_create a) one (record b { share = without one others own })).share
     (answered_as (planned one.last_create a) one (record b { share = without one others own })).waiting
 taking told own b one others None old is proper asks built pays = absurd (cc asks)
-taking told own b one others (Some Asked.Aside) old is proper asks built pays =
+taking told own b one others (Some WireRequest.Aside) old is proper asks built pays =
     takes_mirrors told _ _ _ b.waiting _ (aside_takes told own b.waiting one others old is) old.begun old.paid old.choices (pays proper)
-taking told own b one others (Some (Asked.Share related r)) old is proper asks built pays =
+taking told own b one others (Some (WireRequest.Share related r)) old is proper asks built pays =
     let alike : IsAlike (resolved related one.last_create r) r = resolved_alike related one.last_create r in
     sharing told own b one others r (resolved related one.last_create r) (refused_before related one.last_create r) old is proper
     (not_creating related (is_creating r) (refusal_before one.last_create)) alike.0 (alike.1 ∙ built) pays
@@ -433,7 +434,7 @@ pub took_mirrors : (told own : Share) (b : State) (one : Sent) (others : List Se
 unfolding plan_of
 took_mirrors told own b one others old is pays =
     let request : IsRequest one = (subst (AllByRecursion IsRequest) is old.requests).0 in
-    subst (λ (found : Option Sent). Mirrors (after_took_of found told) (answered_as (planned one.last_create (asked one.message)) one (record b { share = without one others own })).share
-    (answered_as (planned one.last_create (asked one.message)) one (record b { share = without one others own })).waiting)
+    subst (λ (found : Option Sent). Mirrors (after_took_of found told) (answered_as (planned one.last_create (wire_request one.message)) one (record b { share = without one others own })).share
+    (answered_as (planned one.last_create (wire_request one.message)) one (record b { share = without one others own })).waiting)
     (sym (found_first one others told.sent (old.sent ∙ is)))
-    (taking told own b one others (asked one.message) old is request.proper request.asks (asked_built one.message) pays)
+    (taking told own b one others (wire_request one.message) old is request.proper request.asks (asked_built one.message) pays)

@@ -5,7 +5,7 @@ use Rattle.smb_link.specs.declared.event.Event.{Event}
 use Rattle.share_spec.specs.declared.share.Share.{Share}
 use Rattle.share_box.specs.declared.schedule.Turn.{Turn}
 use Rattle.share_box.specs.declared.schedule.Turn.TheVariants as turn
-use Rattle.share_box.specs.declared.turns.Ahead.TheVariants as ahead
+use Rattle.share_box.specs.declared.turns.NextTurn.TheVariants as ahead
 use Rattle.share_box.specs.Schedule.{turns_behind}
 use Rattle.share_box.specs.Turns.{is_possible, must_pass, from_possible, ahead_in, at_connect, reached}
 

@@ -2,6 +2,7 @@
 use Rattle.std.proofs.Common.{◌≡◌, ◌∙◌, ◌⊎◌, inl, inr, ℕ, Bool, true, false, List, [], ◌++◌, Option, Some, None, Result, Ok, Err, OnOk, refl, sym, ap, subst, arith, length-append}
 use Rattle.std.specs.Prelude.{◌==◌, not, ◌&&◌, ◌||◌, if◌then◌else◌}
 use Rattle.smb_le.specs.Numbers.{number_at}
+use Rattle.smb_head.specs.declared.command.TheConstants.{NEGOTIATE, SESSION_SETUP, TREE_CONNECT, CREATE, CLOSE, QUERY_INFO}
 use Rattle.smb_head.specs.declared.head.Head.{Head}
 use Rattle.smb_head.specs.declared.head.HeadFault.{HeadFault}
 use Rattle.smb_head.specs.Header.{head_of, header}
@@ -64,7 +65,7 @@ refused_says command status refusal again head =
     let is : is_error m ≡ true =
     subst (λ (b : List ℕ). is_error (header head ++ b) ≡ true) (sym body.1)
     (error_is (header head ++ spelling 9 error []) (stands 9 error [] (header head) body.0 (length-header head))) in
-    refused_by (status == 0) (status == 0x80000005) (command == 16) (is_error m) (reply_of 0 (body_in command m)) (Some (of_status status)) refusal is
+    refused_by (status == 0) (status == 0x80000005) (command == QUERY_INFO) (is_error m) (reply_of 0 (body_in command m)) (Some (of_status status)) refusal is
 
 -- a CREATE that was done
 opened_says : (number action size attributes : ℕ) → Says 5 (opened_reply number action size attributes)
@@ -86,17 +87,17 @@ unfolding IsBodyAgain body_of
 closed_says again head =
     ap (reply_of 0) (closed_is (message head (said.Share (of_status 0))) (stands 60 closed [] (header head) again (length-header head)))
 
-created : (command : ℕ) (reply : Rep) → command ≡ 5 → IsRefused reply ⊎ IsOpened reply → Says command reply
+created : (command : ℕ) (reply : Rep) → command ≡ CREATE → IsRefused reply ⊎ IsOpened reply → Says command reply
 created command reply by (inl r) = subst (Says command) (sym r.is) (refused_says command r.status r.refusal)
 created command reply by (inr o) =
     subst (λ (c : ℕ). Says c reply) (sym by) (subst (Says 5) (sym o.is) (opened_says o.number o.action o.size o.attributes))
 
-told : (command : ℕ) (reply : Rep) → command ≡ 16 → IsRefused reply ⊎ IsTold reply → Says command reply
-told command reply by (inl r) = subst (Says command) (sym r.is) (refused_says command r.status r.refusal)
-told command reply by (inr o) =
+told_says : (command : ℕ) (reply : Rep) → command ≡ QUERY_INFO → IsRefused reply ⊎ IsTold reply → Says command reply
+told_says command reply by (inl r) = subst (Says command) (sym r.is) (refused_says command r.status r.refusal)
+told_says command reply by (inr o) =
     subst (λ (c : ℕ). Says c reply) (sym by) (subst (Says 16) (sym o.is) (told_says o.share o.node o.entry))
 
-ended : (command : ℕ) (reply : Rep) → command ≡ 6 → IsRefused reply ⊎ (reply ≡ of_status 0) → Says command reply
+ended : (command : ℕ) (reply : Rep) → command ≡ CLOSE → IsRefused reply ⊎ (reply ≡ of_status 0) → Says command reply
 ended command reply by (inl r) = subst (Says command) (sym r.is) (refused_says command r.status r.refusal)
 ended command reply by (inr is) = subst (λ (c : ℕ). Says c reply) (sym by) (subst (Says 6) (sym is) closed_says)
 
@@ -113,14 +114,14 @@ steps command s r (inl c) =
 steps command s r (inr (inl c)) =
     subst (λ (q : Req). Says command (step_of None s us q).0) (sym c.is) (ended command _ c.by (close_shape s us c.fid))
 steps command s r (inr (inr c)) =
-    subst (λ (q : Req). Says command (step_of None s us q).0) (sym c.is) (told command _ c.by (query_shape s us c.fid))
+    subst (λ (q : Req). Says command (step_of None s us q).0) (sym c.is) (told_says command _ c.by (query_shape s us c.fid))
 
 -- what is said to a request of the connection itself, by its command
 abbrev chosen : Bool → Bool → Bool → Bool → Said
 chosen a b c d =
     if a then said.Negotiated else if b then (if d then said.Challenge else said.Session) else if c then said.Tree else said.Done
 
-chosen_says : (a b c d : Bool) (command : ℕ) (head : Head) → (command == 0) ≡ a → (command == 1) ≡ b → (command == 3) ≡ c
+chosen_says : (a b c d : Bool) (command : ℕ) (head : Head) → (command == NEGOTIATE) ≡ a → (command == SESSION_SETUP) ≡ b → (command == TREE_CONNECT) ≡ c
     → IsBodyAgain (chosen a b c d) → is_aside_by_status (status_of (chosen a b c d)).0 command (message head (chosen a b c d)) ≡ true
 unfolding IsBodyAgain body_of
 chosen_says true b c d command head p q r again =
@@ -138,7 +139,7 @@ aside_says : (command : ℕ) (request : List ℕ) (head : Head) → IsBodyAgain 
     → is_aside_by_status (status_of (said_aside command request)).0 command (message head (said_aside command request)) ≡ true
 unfolding said_session
 aside_says command request head again =
-    chosen_says (command == 0) (command == 1) (command == 3)
+    chosen_says (command == NEGOTIATE) (command == SESSION_SETUP) (command == TREE_CONNECT)
     (has_body 25 request && lies 25 (number_at 2 76 request) (number_at 2 78 request) request && is_first_message (token_in request))
     command head refl refl refl again
 

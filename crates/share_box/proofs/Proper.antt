@@ -19,13 +19,13 @@ use Rattle.share_spec.specs.Names.{is_name, components}
 use Rattle.share_spec.specs.State.{emptied}
 use Rattle.share_spec.specs.Place.{place_of}
 use Rattle.share_spec.specs.Reply.{unless, refused}
-use Rattle.share_spec.specs.Sent.{sent_but}
+use Rattle.share_spec.specs.Sent.{sent_but, behind_create}
 use Rattle.share_spec.specs.Create.{is_disposition, overwrites, made, opened, create_at, create_of}
 use Rattle.share_spec.specs.Close.{open_of, close_open}
 use Rattle.share_spec.specs.Query.{query_open}
 use Rattle.share_spec.specs.Step.{step_of}
-use Rattle.fs_plain.specs.Requests.{asked}
-use Rattle.fs_plain.specs.World.{us, is_creating, came_to, waiting, behind_create, messages_of, first_mid, requests_among, requests_in}
+use Rattle.fs_plain.specs.Requests.{wire_request}
+use Rattle.fs_plain.specs.World.{us, is_creating, came_to, waiting, messages_of, first_mid, requests_among, requests_in}
 use Rattle.share_box.specs.declared.serving.Plan.{Plan}
 use Rattle.share_box.specs.declared.serving.Plan.TheVariants as plan
 use Rattle.share_box.specs.declared.state.State.{State}
@@ -54,25 +54,25 @@ proper_append (x ∷ xs) ys p q = (p.0, proper_append xs ys p.1 q)
 among : (frame : Mid) (parts : List (Result (List ℕ) BadNext)) → AreProper (requests_among frame parts)
 among frame [] = tt
 among frame (Err bad ∷ parts) = among frame parts
-among frame (Ok message ∷ parts) = by (is_none (asked message)) (requests_among frame parts) (among frame parts)
+among frame (Ok message ∷ parts) = by (is_none (wire_request message)) (requests_among frame parts) (among frame parts)
   where
     by : (t : Bool) (others : List Sent) → AreProper others → AreProper (if t then others else waiting frame message ∷ others)
     by true others all = all
     by false others all = (record { own = refl; outcome = refl }, all)
 
-told : (frame : Mid) (reply : Rep) (x : Sent) → is_outcome (came_to reply reply.body) ≡ true → IsProper x → IsProper (behind_create frame reply x)
-told frame reply x outcome proper = by (x.frame.0 == frame.0)
+told_proper : (frame : Mid) (reply : Rep) (x : Sent) → is_outcome (came_to reply reply.body) ≡ true → IsProper x → IsProper (behind_create frame (came_to reply reply.body) x)
+told_proper frame reply x outcome proper = by (x.frame.0 == frame.0)
   where
     by : (t : Bool) → IsProper (if t then record x { last_create = came_to reply reply.body } else x)
     by true = record { own = proper.own; outcome = outcome }
     by false = proper
 
-all_told : (frame : Mid) (reply : Rep) (xs : List Sent) → is_outcome (came_to reply reply.body) ≡ true → AreProper xs → AreProper (map (behind_create frame reply) xs)
+all_told : (frame : Mid) (reply : Rep) (xs : List Sent) → is_outcome (came_to reply reply.body) ≡ true → AreProper xs → AreProper (map (behind_create frame (came_to reply reply.body)) xs)
 all_told frame reply [] outcome all = tt
-all_told frame reply (x ∷ xs) outcome all = (told frame reply x outcome all.0, all_told frame reply xs outcome all.1)
+all_told frame reply (x ∷ xs) outcome all = (told_proper frame reply x outcome all.0, all_told frame reply xs outcome all.1)
 
 after_proper : (t : Bool) (frame : Mid) (reply : Rep) (xs : List Sent) → (t ≡ true → is_outcome (came_to reply reply.body) ≡ true) → AreProper xs
-    → AreProper (if t then map (behind_create frame reply) xs else xs)
+    → AreProper (if t then map (behind_create frame (came_to reply reply.body)) xs else xs)
 after_proper true frame reply xs outcome all = all_told frame reply xs (outcome refl) all
 after_proper false frame reply xs outcome all = all
 

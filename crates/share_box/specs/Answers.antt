@@ -1,6 +1,7 @@
 -- Replies, each as a frame of its own.
 use Rattle.std.specs.Prelude.{ℕ, ◌==◌, Bool, ◌&&◌, nat_le, if◌then◌else◌, List, [], ◌∷◌, length, take, bytes_eq, codes, Result, Ok, Err}
 use Rattle.smb_le.specs.Numbers.{number_at}
+use Rattle.smb_head.specs.declared.command.TheConstants.{NEGOTIATE, SESSION_SETUP, TREE_CONNECT}
 use Rattle.smb_head.specs.declared.head.Head.{Head}
 use Rattle.smb_head.specs.declared.head.HeadFault.{HeadFault}
 use Rattle.smb_head.specs.declared.head.Route.{Route}
@@ -31,14 +32,14 @@ said_session message =
 -- what the reply says to a request that changes nothing on the share
 abbrev pub said_aside : ℕ → List ℕ → Said
 said_aside command message =
-    if command == 0 then said.Negotiated
-    else if command == 1 then said_session message
-    else if command == 3 then said.Tree
+    if command == NEGOTIATE then said.Negotiated
+    else if command == SESSION_SETUP then said_session message
+    else if command == TREE_CONNECT then said.Tree
     else said.Done
 
 -- the session of a reply: the one that it makes, or that of the request
 abbrev pub session_of : Head → ℕ
-session_of head = if head.command == 1 then 1 else head.session
+session_of head = if head.command == SESSION_SETUP then 1 else head.session
 
 abbrev pub tree_in : Route → ℕ
 tree_in (Sync tree) = tree
@@ -46,7 +47,7 @@ tree_in (Async id) = 0
 
 -- its tree: the one that it connects, or that of the request
 abbrev pub tree_of : Head → ℕ
-tree_of head = if head.command == 3 then 1 else tree_in head.route
+tree_of head = if head.command == TREE_CONNECT then 1 else tree_in head.route
 
 -- its header
 abbrev pub reply_head : Head → ℕ → Said → Head

@@ -1,5 +1,5 @@
 pub mod Schedule
-pub mod Asked
+pub mod Parsed
 pub mod Bodies
 pub mod Again
 pub mod Answers

@@ -14,8 +14,7 @@ use Rattle.share_spec.specs.Breaks.{needs_of}
 use Rattle.share_spec.specs.Built.{is_built}
 use Rattle.share_spec.specs.Reply.{of_status}
 use Rattle.share_spec.specs.Step.{step_of}
-use Rattle.fs_plain.specs.Requests.{asked}
-use Rattle.fs_plain.specs.Requests as wire
+use Rattle.fs_plain.specs.Requests.{WireRequest, wire_request}
 use Rattle.fs_plain.specs.World.{us, resolved, refused_before, after_create}
 use Rattle.share_box.specs.declared.bodies.Said.{Said}
 use Rattle.share_box.specs.declared.bodies.Said.TheVariants as said
@@ -28,14 +27,14 @@ abbrev pub plan_by : Option ℕ → Req → Plan
 plan_by None r = plan.Do r
 plan_by (Some status) r = plan.Refuse (record { 0 = status })
 
-abbrev pub planned : LastCreate → Option wire.Asked → Option Plan
+abbrev pub planned : LastCreate → Option WireRequest → Option Plan
 planned before None = None
-planned before (Some wire.Asked.Aside) = Some plan.Aside
-planned before (Some (wire.Asked.Share related r)) = Some (plan_by (refused_before related before r) (resolved related before r))
+planned before (Some WireRequest.Aside) = Some plan.Aside
+planned before (Some (WireRequest.Share related r)) = Some (plan_by (refused_before related before r) (resolved related before r))
 
 -- what is to be done for a message that waits
 unfoldable pub plan_of : Sent → Option Plan
-plan_of one = planned one.last_create (asked one.message)
+plan_of one = planned one.last_create (wire_request one.message)
 
 -- the share takes what is to be done
 abbrev pub is_doable : Plan → Bool

@@ -9,7 +9,7 @@ use Rattle.share_spec.specs.declared.connection.Sent.{Sent}
 use Rattle.share_spec.specs.declared.share.Share.{Share}
 use Rattle.smb_link.specs.declared.event.Event.{Event}
 use Rattle.smb_link.specs.declared.event.Event.TheVariants as event
-use Rattle.fs_plain.specs.Requests.{asked}
+use Rattle.fs_plain.specs.Requests.{wire_request}
 use Rattle.fs_plain.specs.Honest.{HonestFrom}
 use Rattle.fs_plain.specs.CleanEnd.{share_after}
 use Rattle.fs_plain.specs.Related.{bare}
@@ -30,7 +30,7 @@ AreBare choices = AllByRecursion IsBare choices
 
 -- a message that waits asks for something, under its own id
 pub record IsRequest (x : Sent) : Type 0 where
-  pub asks : is_none (asked x.message) ≡ false
+  pub asks : is_none (wire_request x.message) ≡ false
   pub proper : IsProper x
 
 -- bytes are frames that pay what is owed, one after the other

@@ -12,8 +12,8 @@ use Rattle.share_box.specs.declared.bodies.Said.{Said}
 use Rattle.share_box.specs.declared.schedule.Turn.{Turn}
 use Rattle.share_box.specs.declared.schedule.Turn.TheVariants as turn
 use Rattle.share_box.specs.declared.serving.Plan.{Plan}
-use Rattle.share_box.specs.declared.turns.Ahead.{Ahead}
-use Rattle.share_box.specs.declared.turns.Ahead.TheVariants as ahead
+use Rattle.share_box.specs.declared.turns.NextTurn.{NextTurn}
+use Rattle.share_box.specs.declared.turns.NextTurn.TheVariants as ahead
 use Rattle.share_box.specs.declared.state.State.{State}
 use Rattle.share_box.specs.Schedule.{turns_behind}
 use Rattle.share_box.specs.Answers.{reply_of}
@@ -111,7 +111,7 @@ abbrev pub reached : Share → List Event → List Turn → Bool → Reached
 reached s story turns refused = record { share = s; story = story; turns = turns; refused = refused }
 
 -- what comes next at a connect
-abbrev pub ahead_in : List Turn → Ahead
+abbrev pub ahead_in : List Turn → NextTurn
 ahead_in [] = ahead.Rest
 ahead_in (turn.Act who r ∷ ts) = ahead.Turn
 ahead_in (turn.DropAll ∷ ts) = ahead.Turn

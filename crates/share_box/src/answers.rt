@@ -6,10 +6,10 @@ ghost use Rattle.share_box.specs.Paid.{IsReplyTo};
 ghost use Rattle.share_box.specs.Answers.{is_first_message, said_session, said_aside, session_of, tree_of, reply_head, reply_of};
 
 use crate::bodies::{Said, put_body, status_of};
-use crate::requests::{NEGOTIATE, SESSION_SETUP, TREE_CONNECT};
 use smb_base::{Bytes, NoMemory};
 use smb_body_a::read_session_setup_request;
 use smb_chain::ChainBuilder;
+use smb_head::command::{NEGOTIATE, SESSION_SETUP, TREE_CONNECT};
 use smb_head::{Head, Route, read_head};
 use smb_le::{HeadFlags, get_u32};
 use std::alloc::Global;

@@ -12,7 +12,7 @@ ghost use Rattle.share_box.specs.Turns.{is_possible, is_cut};
 use crate::schedule::{Schedule, Turn};
 use crate::state::{State, accept, end, give, join, lose, note, refuse, wait};
 use crate::turns::{do_turn, next_turn, turns_at_connect};
-use crate::waiting::{Coming, Waiting};
+use crate::waiting::{TurnsToCome, Waiting};
 use share_spec::Share;
 use smb_base::NoMemory;
 use smb_link::{EventList, Got, Link, LinkFail, Mark};
@@ -60,7 +60,7 @@ impl BoxLink {
                 fold,
                 share,
                 waiting: Waiting::new(alloc),
-                turns: Coming::of(turns),
+                turns: TurnsToCome::of(turns),
                 credits,
                 story: EventList::new(alloc),
                 dead: false,

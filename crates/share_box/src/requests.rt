@@ -5,8 +5,8 @@ ghost use Rattle.smb_le.specs.Numbers.{number_at};
 ghost use Rattle.smb_body_b.specs.Contexts.{read_of};
 ghost use Rattle.share_spec.specs.State.{has};
 ghost use Rattle.fs_plain.specs.Wire.{has_body, lies, units_in};
-ghost use Rattle.fs_plain.specs.Requests.{asked, is_aside, is_create, create_asked, close_asked, query_asked, by_command, Asked as wire};
-ghost use Rattle.share_box.specs.Asked.{as_asked, is_taken, IsCreateIn, is_plain, are_plain};
+ghost use Rattle.fs_plain.specs.Requests.{wire_request, is_aside, is_create, create_asked, close_asked, query_asked, by_command, WireRequest};
+ghost use Rattle.share_box.specs.Parsed.{wire_request_of, is_taken, IsCreateIn, is_plain, are_plain};
 
 use share_spec::Req;
 use smb_base::{NoMemory, Units};
@@ -17,36 +17,13 @@ use smb_body_b::{
     ContextSet, CreateRequest, read_close_request, read_contexts, read_create_request,
 };
 use smb_body_c::read_query_info_request;
+use smb_head::command::{
+    CLOSE, CREATE, ECHO, LOGOFF, NEGOTIATE, QUERY_INFO, SESSION_SETUP, TREE_CONNECT,
+    TREE_DISCONNECT,
+};
 use smb_head::read_head;
 use smb_le::get_u16;
 use std::alloc::Global;
-
-/// The command NEGOTIATE (MS-SMB2 2.2.3).
-pub const NEGOTIATE: u16 = 0;
-
-/// The command SESSION_SETUP (MS-SMB2 2.2.5).
-pub const SESSION_SETUP: u16 = 1;
-
-/// The command LOGOFF (MS-SMB2 2.2.7).
-const LOGOFF: u16 = 2;
-
-/// The command TREE_CONNECT (MS-SMB2 2.2.9).
-pub const TREE_CONNECT: u16 = 3;
-
-/// The command TREE_DISCONNECT (MS-SMB2 2.2.11).
-const TREE_DISCONNECT: u16 = 4;
-
-/// The command CREATE (MS-SMB2 2.2.13).
-const CREATE: u16 = 5;
-
-/// The command CLOSE (MS-SMB2 2.2.15).
-const CLOSE: u16 = 6;
-
-/// The command ECHO (MS-SMB2 2.2.28).
-const ECHO: u16 = 13;
-
-/// The command QUERY_INFO (MS-SMB2 2.2.37).
-const QUERY_INFO: u16 = 16;
 
 /// Information of a file (MS-SMB2 2.2.37).
 const FILE: u8 = 1;
@@ -62,7 +39,7 @@ const RELATED: u32 = 4;
 
 /// What a message asks for.
 #[derive(Debug, Drop)]
-pub enum Asked {
+pub enum ParsedRequest {
     /// Something of the connection itself: a step of a mount, an ECHO, or the end of a tree or a session.
     Aside,
     /// This of the share, and whether it is related to the CREATE before it in its frame (MS-SMB2 3.3.5.2.7.2).
@@ -77,9 +54,9 @@ fn has(flags: u32, flag: u32) -> bool
 }
 
 // What a message asks for, if it is a request that is known.
-#[tactic(auto, unfolding(fs_plain::specs::Requests::asked))]
-pub(crate) fn what_is_asked(alloc: Global, message: &[u8]) -> Result<Option<Asked>, NoMemory>
-    ensures exact { IfOk result (λ a. option_map as_asked a ≡ asked message.now) }
+#[tactic(auto, unfolding(fs_plain::specs::Requests::wire_request))]
+pub(crate) fn what_is_asked(alloc: Global, message: &[u8]) -> Result<Option<ParsedRequest>, NoMemory>
+    ensures exact { IfOk result (λ a. option_map wire_request_of a ≡ wire_request message.now) }
     ensures taken { IfOk result (λ a. IfSome a (λ x. is_taken x ≡ true)) }
 {
     let Ok(head) = read_head(message) else {
@@ -97,8 +74,8 @@ fn asked_by(
     command: u16,
     related: bool,
     message: &[u8],
-) -> Result<Option<Asked>, NoMemory>
-    ensures exact { IfOk result (λ a. option_map as_asked a ≡ by_command command related message.now) }
+) -> Result<Option<ParsedRequest>, NoMemory>
+    ensures exact { IfOk result (λ a. option_map wire_request_of a ≡ by_command command related message.now) }
     ensures taken { IfOk result (λ a. IfSome a (λ x. is_taken x ≡ true)) }
 {
     match command {
@@ -110,12 +87,12 @@ fn asked_by(
 }
 
 // A request of the connection itself, if its body reads.
-fn asked_aside(command: u16, message: &[u8]) -> Option<Asked>
-    ensures exact { option_map as_asked result ≡ (if is_aside command message.now then Some wire.Aside else None) }
+fn asked_aside(command: u16, message: &[u8]) -> Option<ParsedRequest>
+    ensures exact { option_map wire_request_of result ≡ (if is_aside command message.now then Some WireRequest.Aside else None) }
     ensures taken { IfSome result (λ x. is_taken x ≡ true) }
 {
     if reads_aside(command, message) {
-        Some(Asked::Aside)
+        Some(ParsedRequest::Aside)
     } else {
         None
     }
@@ -172,8 +149,8 @@ fn create_of(message: &[u8]) -> Option<CreateRequest<'_>>
 }
 
 // A CREATE, if it reads and wants neither a lease nor a durable open, new or old.
-fn asked_create(alloc: Global, related: bool, message: &[u8]) -> Result<Option<Asked>, NoMemory>
-    ensures exact { IfOk result (λ a. option_map as_asked a ≡ create_asked related message.now) }
+fn asked_create(alloc: Global, related: bool, message: &[u8]) -> Result<Option<ParsedRequest>, NoMemory>
+    ensures exact { IfOk result (λ a. option_map wire_request_of a ≡ create_asked related message.now) }
     ensures taken { IfOk result (λ a. IfSome a (λ x. is_taken x ≡ true)) }
 {
     let Some(create) = create_of(message) else {
@@ -182,7 +159,7 @@ fn asked_create(alloc: Global, related: bool, message: &[u8]) -> Result<Option<A
     if !are_plain(create.contexts) {
         return Ok(None);
     }
-    Ok(Some(Asked::Share(
+    Ok(Some(ParsedRequest::Share(
         related,
         Req::Create {
             path: units_of(alloc, create.name)?,
@@ -248,25 +225,25 @@ fn units_of(alloc: Global, bytes: &[u8]) -> Result<Units, NoMemory>
 }
 
 // A CLOSE, if it reads.
-fn asked_close(related: bool, message: &[u8]) -> Option<Asked>
-    ensures exact { option_map as_asked result ≡ close_asked related message.now }
+fn asked_close(related: bool, message: &[u8]) -> Option<ParsedRequest>
+    ensures exact { option_map wire_request_of result ≡ close_asked related message.now }
     ensures taken { IfSome result (λ x. is_taken x ≡ true) }
 {
     match read_close_request(message) {
-        Ok(close) => Some(Asked::Share(related, Req::Close { fid: close.file_id })),
+        Ok(close) => Some(ParsedRequest::Share(related, Req::Close { fid: close.file_id })),
         Err(_) => None,
     }
 }
 
 // A QUERY_INFO for all that is known of a file, if it reads.
-fn asked_query(related: bool, message: &[u8]) -> Option<Asked>
-    ensures exact { option_map as_asked result ≡ query_asked related message.now }
+fn asked_query(related: bool, message: &[u8]) -> Option<ParsedRequest>
+    ensures exact { option_map wire_request_of result ≡ query_asked related message.now }
     ensures taken { IfSome result (λ x. is_taken x ≡ true) }
 {
     match read_query_info_request(message) {
         Ok(query) => {
             if query.info_type == FILE && query.class == ALL {
-                Some(Asked::Share(related, Req::Query { fid: query.file_id }))
+                Some(ParsedRequest::Share(related, Req::Query { fid: query.file_id }))
             } else {
                 None
             }

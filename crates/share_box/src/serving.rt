@@ -3,16 +3,16 @@
 ghost use Rattle.std.specs.Prelude.{◌≡◌, true, None, IfOk, IfSome, OnErr, option_map};
 ghost use Rattle.smb_head.specs.Header.{head_of};
 ghost use Rattle.share_spec.specs.Built.{is_built};
-ghost use Rattle.share_spec.specs.Reply.{of_status};
+ghost use Rattle.share_spec.specs.Reply.{of_status, map_fid};
 ghost use Rattle.share_spec.specs.Step.{step_of};
-ghost use Rattle.fs_plain.specs.World.{us, with_fid, followed, is_creating, refusal_before, refused_before, resolved, came_to, after_create};
+ghost use Rattle.fs_plain.specs.World.{us, followed, is_creating, refusal_before, refused_before, resolved, came_to, after_create};
 ghost use Rattle.share_box.specs.declared.bodies.Said.TheVariants as said;
 ghost use Rattle.share_box.specs.Paid.{GrantsNothing};
 ghost use Rattle.share_box.specs.Serving.{plan_by, plan_of, is_doable, plan_is_free, is_servable, said_under, stepped, done_by};
 
 use crate::answers::said_aside;
 use crate::bodies::Said;
-use crate::requests::{Asked, what_is_asked};
+use crate::requests::{ParsedRequest, what_is_asked};
 use share_spec::{LastCreate, Rep, RepBody, Req, Sent, SentList, Share, Who, conflicts, step};
 use smb_base::{Fid, Mid, NoMemory, Status};
 use smb_head::read_head;
@@ -36,8 +36,8 @@ pub(crate) fn plan_for(alloc: Global, one: &Sent) -> Result<Option<Plan>, NoMemo
     ensures doable { IfOk result (λ p. IfSome p (λ x. is_doable x ≡ true)) }
 {
     match what_is_asked(alloc, one.message.as_slice())? {
-        Some(Asked::Aside) => Ok(Some(Plan::Aside)),
-        Some(Asked::Share(related, r)) => Ok(Some(plan_by(related, one.last_create, r))),
+        Some(ParsedRequest::Aside) => Ok(Some(Plan::Aside)),
+        Some(ParsedRequest::Share(related, r)) => Ok(Some(plan_by(related, one.last_create, r))),
         None => Ok(None),
     }
 }
@@ -97,7 +97,7 @@ fn followed(last: LastCreate, r: Req) -> Req
 // A request with this file id in place of its own.
 fn with_fid(fid: Fid, r: Req) -> Req
     requires { is_built r ≡ true }
-    ensures exact { result ≡ with_fid fid r }
+    ensures exact { result ≡ map_fid (λ own. fid) r }
     ensures built { is_built result ≡ true }
 {
     match r {

@@ -8,7 +8,7 @@ ghost use Rattle.share_box.specs.Truth.{IsUntold};
 ghost use Rattle.share_box.specs.Calls.{ended, accepted, joined, refused, given, waited, marked, GoesOn};
 
 use crate::sending::add_requests;
-use crate::waiting::{Coming, Waiting};
+use crate::waiting::{TurnsToCome, Waiting};
 use share_spec::{OwedList, SentList, Share, cut};
 use smb_base::{Bytes, NoMemory};
 use smb_link::{Event, EventList, Mark};
@@ -26,7 +26,7 @@ pub struct State {
     /// The bytes that the client has not got yet.
     pub waiting: Waiting,
     /// The turns to come.
-    pub turns: Coming,
+    pub turns: TurnsToCome,
     /// How many credits each reply grants.
     pub credits: u16,
     /// What happened so far.

@@ -186,7 +186,7 @@ pub(crate) fn do_turn(alloc: Global, b: &mut State, turn: Turn) -> Result<(), No
 
 /// What comes next at a connect.
 #[derive(Clone, Copy)]
-enum Ahead {
+enum NextTurn {
     /// A turn that a connect takes.
     Turn,
     /// A refusal.
@@ -196,14 +196,14 @@ enum Ahead {
 }
 
 // What comes next at a connect.
-fn ahead_of(b: &State) -> Ahead
+fn ahead_of(b: &State) -> NextTurn
     ensures { result ≡ ahead_in b.now.turns }
 {
     match b.turns.front() {
-        Some(Turn::Act(_, _)) => Ahead::Turn,
-        Some(Turn::DropAll) => Ahead::Turn,
-        Some(Turn::RefuseConnect) => Ahead::Refusal,
-        _ => Ahead::Rest,
+        Some(Turn::Act(_, _)) => NextTurn::Turn,
+        Some(Turn::DropAll) => NextTurn::Turn,
+        Some(Turn::RefuseConnect) => NextTurn::Refusal,
+        _ => NextTurn::Rest,
     }
 }
 
@@ -222,7 +222,7 @@ fn try_act(alloc: Global, b: &mut State, who: u32, r: Req) -> Result<(), NoMemor
 
 // Takes the next turn of the list, which a connect takes, and does it where it is possible.
 fn turn_at_connect(alloc: Global, b: &mut State) -> Result<(), NoMemory>
-    requires { ahead_in b.old.turns ≡ Ahead.Turn }
+    requires { ahead_in b.old.turns ≡ NextTurn.Turn }
     ensures ok { OnOk result (at_connect b.new.turns b.new.share b.new.story ≡ at_connect b.old.turns b.old.share b.old.story) }
     ensures fewer { length b.new.turns + 1 ≡ length b.old.turns }
     ensures rest { b.new ≡ record b.old { share = b.new.share; story = b.new.story; turns = b.new.turns } }
@@ -244,12 +244,12 @@ pub(crate) fn turns_at_connect(alloc: Global, b: &mut State) -> Result<bool, NoM
 {
     loop {
         match ahead_of(b) {
-            Ahead::Turn => turn_at_connect(alloc, b)?,
-            Ahead::Refusal => {
+            NextTurn::Turn => turn_at_connect(alloc, b)?,
+            NextTurn::Refusal => {
                 b.turns.pass();
                 return Ok(true);
             }
-            Ahead::Rest => return Ok(false),
+            NextTurn::Rest => return Ok(false),
         }
     }
 }

@@ -102,12 +102,12 @@ fn drop_front(held: &mut Vec<u8>, count: usize)
 
 /// Turns that are to come. A contract sees the list of them, the next one first.
 #[derive(Drop)]
-pub struct Coming {
+pub struct TurnsToCome {
     // The next one last.
     held: Vec<Turn>,
 }
 
-impl Model for Coming {
+impl Model for TurnsToCome {
     ghost use Rattle.std.specs.Prelude.{List, reverse};
     ghost use Rattle.share_box.specs.declared.schedule.Turn.{Turn};
 
@@ -116,14 +116,14 @@ impl Model for Coming {
     ghost view = { λ c. reverse c.held.items };
 }
 
-impl Coming {
+impl TurnsToCome {
     // These turns. It takes no memory.
-    pub(crate) fn of(turns: TurnList) -> Coming
+    pub(crate) fn of(turns: TurnList) -> TurnsToCome
         ensures { result ≡ turns }
     {
         let mut held = turns.into_vec();
         held.reverse();
-        Coming { held }
+        TurnsToCome { held }
     }
 
     // Lends the next turn.

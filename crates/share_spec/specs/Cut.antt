@@ -6,7 +6,7 @@ use Rattle.share_spec.specs.declared.lease.Lease.{Lease}
 use Rattle.share_spec.specs.declared.opens.Open.{Open}
 use Rattle.share_spec.specs.declared.request.Who.{Who}
 use Rattle.share_spec.specs.declared.share.Share.{Share}
-use Rattle.share_spec.specs.declared.lost.Ending.{Ending}
+use Rattle.share_spec.specs.declared.lost.OpenEnding.{OpenEnding}
 use Rattle.share_spec.specs.Close.{is_key_of, closed, ended}
 
 -- the share once these opens end, one after the other, each as by a Close
@@ -15,11 +15,11 @@ all_closed [] s = s
 all_closed (o ∷ os) s = all_closed os (closed o s)
 
 -- what the end of an open goes by
-abbrev pub ending_of : Open → Ending
+abbrev pub ending_of : Open → OpenEnding
 ending_of o = record { number = o.number; node = o.node; entry = o.entry; delete = o.delete_on_close }
 
 -- the same, given what the ends go by
-abbrev pub all_ended : List Ending → Share → Share
+abbrev pub all_ended : List OpenEnding → Share → Share
 all_ended [] s = s
 all_ended (e ∷ es) s = all_ended es (ended e.number e.node e.entry e.delete s)
 

@@ -1,5 +1,5 @@
--- The share as a client without leases, durable opens and connections sees it, and when two replies are the same.
-use Rattle.std.specs.Prelude.{◌≡◌, true, false, [], map, Some, None}
+-- The share as a client without leases, durable opens and connections sees it.
+use Rattle.std.specs.Prelude.{true, false, [], map, Some, None}
 use Rattle.share_spec.specs.declared.opens.Open.{Open}
 use Rattle.share_spec.specs.declared.request.Who.{Who}
 use Rattle.share_spec.specs.declared.request.Rep.{Rep}
@@ -36,7 +36,3 @@ shown_body b = b
 
 abbrev pub shown : Rep → Rep
 shown r = record r { body = shown_body r.body }
-
--- two replies are the same: status and body agree, apart from the file id, the lease and the durable grant
-abbrev pub IsSameReply : Rep → Rep → Type 0
-IsSameReply a b = shown a ≡ shown b

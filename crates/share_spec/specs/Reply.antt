@@ -3,6 +3,8 @@ use Rattle.std.specs.Prelude.{ℕ, Bool, false, if◌then◌else◌, Option, Som
 use Rattle.smb_base.specs.declared.names.Fid.{Fid}
 use Rattle.share_spec.specs.declared.request.Rep.{Rep}
 use Rattle.share_spec.specs.declared.request.RepBody.TheVariants as body
+use Rattle.share_spec.specs.declared.request.Req.{Req}
+use Rattle.share_spec.specs.declared.request.Req.TheVariants as req
 use Rattle.share_spec.specs.declared.share.Share.{Share}
 
 -- a reply of this status alone
@@ -21,6 +23,12 @@ unless (Some status) s done = refused status s
 -- the file id of an open: its number in both halves
 abbrev pub fid_of : ℕ → Fid
 fid_of n = record { persistent = n; volatile = n }
+
+-- a request with another file id in place of its own, where it is one of those that are built so far and has one
+abbrev pub map_fid : (Fid → Fid) → Req → Req
+map_fid f (req.Close fid) = req.Close (f fid)
+map_fid f (req.Query fid) = req.Query (f fid)
+map_fid f r = r
 
 -- the attributes that a reply shows (MS-FSCC 2.6): DIRECTORY 0x10 and READONLY 1, or NORMAL 0x80 where it has neither
 abbrev pub attributes_of : Bool → Bool → ℕ

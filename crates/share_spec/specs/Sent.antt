@@ -5,8 +5,8 @@ use Rattle.share_spec.specs.declared.connection.LastCreate.{LastCreate}
 use Rattle.share_spec.specs.declared.connection.Sent.{Sent}
 
 -- a message once a CREATE of this frame was taken: one that came in the frame knows what it came to
-abbrev pub after_create : Mid → LastCreate → Sent → Sent
-after_create frame last one = if one.frame.0 == frame.0 then record one { last_create = last } else one
+abbrev pub behind_create : Mid → LastCreate → Sent → Sent
+behind_create frame last one = if one.frame.0 == frame.0 then record one { last_create = last } else one
 
 -- the messages but those with this id
 abbrev pub sent_but : Mid → List Sent → List Sent

@@ -1,7 +1,7 @@
 //! The connection: what was sent and not taken, what is owed and not got, and what will be granted.
 
 ghost use Rattle.std.specs.Prelude.{◌≡◌, ◌++◌, ◌∷◌, [], OnOk, OnErr, MatchOption, map};
-ghost use Rattle.share_spec.specs.Sent.{after_create, sent_but};
+ghost use Rattle.share_spec.specs.Sent.{behind_create, sent_but};
 
 use crate::request::Rep;
 use smb_base::{Bytes, Fid, Key, Mid, NoMemory, Status};
@@ -116,7 +116,7 @@ impl SentList {
 
     /// Has each message of the frame whose first message has this id know what the last CREATE before it came to.
     pub fn tell_create(&mut self, frame: Mid, last: LastCreate)
-        ensures { self.new ≡ map (after_create frame last) self.old }
+        ensures { self.new ≡ map (behind_create frame last) self.old }
     {
         tell_in(&mut self.held, frame, last);
     }
@@ -132,7 +132,7 @@ fn remove_from(sent: &mut Vec<Sent>, mid: Mid)
 // Has each message of this frame know what the last CREATE before it came to.
 #[tactic(auto, using(std::proofs::lemmas::List::Edits::map_over_more))]
 fn tell_in(sent: &mut [Sent], frame: Mid, last: LastCreate)
-    ensures { sent.new ≡ map (after_create frame last) sent.old }
+    ensures { sent.new ≡ map (behind_create frame last) sent.old }
 {
     for one in sent.iter_mut() {
         tell_one(one, frame, last);
@@ -141,7 +141,7 @@ fn tell_in(sent: &mut [Sent], frame: Mid, last: LastCreate)
 
 // Has this message know it, where it is of the frame.
 fn tell_one(one: &mut Sent, frame: Mid, last: LastCreate)
-    ensures { one.new ≡ after_create frame last one.old }
+    ensures { one.new ≡ behind_create frame last one.old }
 {
     if one.frame.0 == frame.0 {
         one.last_create = last;

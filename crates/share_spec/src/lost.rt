@@ -14,7 +14,7 @@ use std::alloc::Global;
 
 // An open that ends, as far as its end goes by it.
 #[derive(Clone, Copy)]
-struct Ending {
+struct OpenEnding {
     number: u64,
     node: u64,
     entry: u64,
@@ -38,10 +38,10 @@ fn ends_with(who: Who, leases: &[Lease], one: &Open) -> bool
 }
 
 // What the end of an open goes by.
-fn ending_of(one: &Open) -> Ending
+fn ending_of(one: &Open) -> OpenEnding
     ensures { result ≡ ending_of one.now }
 {
-    Ending {
+    OpenEnding {
         number: one.number,
         node: one.node,
         entry: one.entry,
@@ -55,7 +55,7 @@ fn endings(
     who: Who,
     leases: &[Lease],
     opens: &[Open],
-) -> Result<Vec<Ending>, NoMemory>
+) -> Result<Vec<OpenEnding>, NoMemory>
     ensures { IfOk result (λ list. list.items ≡ map ending_of (filter (ends_with who leases.now) opens.now)) }
 {
     let mut list = Vec::new(alloc);
@@ -68,7 +68,7 @@ fn endings(
 }
 
 // Ends one open after the other, each as by a Close.
-fn end_all(s: &mut Share, list: &[Ending])
+fn end_all(s: &mut Share, list: &[OpenEnding])
     ensures { s.new ≡ all_ended list.now s.old }
 {
     for one in list {

@@ -1,6 +1,7 @@
 //! What stands round every message: the header that begins it, and the frames that carry messages on a stream of bytes.
 #![tactic(auto)]
 
+pub mod command;
 mod first;
 mod frames;
 mod head;

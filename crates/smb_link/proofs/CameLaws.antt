@@ -6,7 +6,7 @@ use Rattle.std.specs.List.{list_all}
 use Rattle.smb_base.specs.declared.names.NoMemory.{NoMemory}
 use Rattle.smb_link.specs.Came.{Seen, Came, own, counted_all, is_refusal, is_cut, is_silence}
 use Rattle.smb_link.specs.Count.{counted}
-use Rattle.smb_link.specs.Story.{told, is_of_share, Gains, GainsByConnect, is_failed, connect_cuts, join_events, ended_events, connect_events, mark_events, send_events, receive_events, is_closed, is_quiet}
+use Rattle.smb_link.specs.Story.{story_with, is_of_share, Gains, GainsByConnect, is_failed, connect_cuts, join_events, ended_events, connect_events, mark_events, send_events, receive_events, is_closed, is_quiet}
 use Rattle.smb_link.specs.declared.event.Event.{Event}
 use Rattle.smb_link.specs.declared.event.Event.TheVariants as event
 use Rattle.smb_link.specs.declared.mark.Mark.{Mark}
@@ -15,13 +15,13 @@ use Rattle.smb_link.specs.declared.faults.LinkFail.TheVariants as fail
 use Rattle.smb_link.specs.declared.faults.Got as answer
 use Rattle.smb_link.specs.declared.faults.Got.TheVariants as got
 
-pub told-nothing : (story : Option (List Event)) → told story [] ≡ story
-told-nothing None = refl
-told-nothing (Some so_far) = ap Some (append-nil so_far)
+pub story_with-nothing : (story : Option (List Event)) → story_with story [] ≡ story
+story_with-nothing None = refl
+story_with-nothing (Some so_far) = ap Some (append-nil so_far)
 
-pub told-told : (story : Option (List Event)) (xs ys : List Event) → told (told story xs) ys ≡ told story (xs ++ ys)
-told-told None xs ys = refl
-told-told (Some so_far) xs ys = ap Some (append_assoc so_far xs ys)
+pub story_with-twice : (story : Option (List Event)) (xs ys : List Event) → story_with (story_with story xs) ys ≡ story_with story (xs ++ ys)
+story_with-twice None xs ys = refl
+story_with-twice (Some so_far) xs ys = ap Some (append_assoc so_far xs ys)
 
 pub counted_all-append : (n : ℕ) (such : Event → Bool) (xs ys : List Event) → counted_all (counted_all n such xs) such ys ≡ counted_all n such (xs ++ ys)
 counted_all-append n such [] ys = refl
@@ -52,20 +52,20 @@ pub own-behind : (share mine : List Event) → list_all is_of_share share ≡ tr
 own-behind share mine all is = own-append share mine ∙ ap (λ (s : List Event). s ++ own mine) (own-share share all) ∙ is
 
 -- a link with no events of the share gains the client's alone
-pub gains_alone : (mine : List Event) (old new : Option (List Event)) → new ≡ told old mine → Gains mine old new
+pub gains_alone : (mine : List Event) (old new : Option (List Event)) → new ≡ story_with old mine → Gains mine old new
 gains_alone mine old new is = ([], refl, is)
 
-pub gains_by_connect_alone : (stood stands : Bool) (result : Result (Unit {0}) LinkFail) (old new : Option (List Event)) → new ≡ told old (connect_events stood stands result)
+pub gains_by_connect_alone : (stood stands : Bool) (result : Result (Unit {0}) LinkFail) (old new : Option (List Event)) → new ≡ story_with old (connect_events stood stands result)
     → GainsByConnect stood stands result old new
 gains_by_connect_alone stood stands result old new is =
     let ended : List Event = ended_events stood stands result in
-    (told old ended, gains_alone ended old (told old ended) refl, gains_alone (join_events result) (told old ended) new (is ∙ sym (told-told old ended (join_events result))))
+    (story_with old ended, gains_alone ended old (story_with old ended) refl, gains_alone (join_events result) (story_with old ended) new (is ∙ sym (story_with-twice old ended (join_events result))))
 
 -- nothing came
 pub came_none : (seen : Seen) → Came [] seen seen
 came_none seen = record {
   gained = [];
-  story = sym (told-nothing seen.story);
+  story = sym (story_with-nothing seen.story);
   clients = refl;
   connect_faults = refl;
   cuts = refl;
@@ -76,7 +76,7 @@ came_none seen = record {
 pub came_then : (xs ys : List Event) (a b c : Seen) → Came xs a b → Came ys b c → Came (xs ++ ys) a c
 came_then xs ys a b c first last = record {
   gained = first.gained ++ last.gained;
-  story = last.story ∙ ap (λ (s : Option (List Event)). told s last.gained) first.story ∙ told-told a.story first.gained last.gained;
+  story = last.story ∙ ap (λ (s : Option (List Event)). story_with s last.gained) first.story ∙ story_with-twice a.story first.gained last.gained;
   clients = own-append first.gained last.gained ∙ ap (λ (e : List Event). e ++ own last.gained) first.clients ∙ ap (λ (e : List Event). xs ++ e) last.clients;
   connect_faults = last.connect_faults ∙ ap (λ (n : ℕ). counted_all n is_refusal ys) first.connect_faults ∙ counted_all-append a.connect_faults is_refusal xs ys;
   cuts = last.cuts ∙ ap (λ (n : ℕ). counted_all n is_cut ys) first.cuts ∙ counted_all-append a.cuts is_cut xs ys;

@@ -1,7 +1,7 @@
 -- A link as contracts see it, and which events of the client came at it.
 use Rattle.std.specs.Prelude.{◌≡◌, ℕ, Bool, true, false, not, List, [], ◌∷◌, filter, Option}
 use Rattle.smb_link.specs.Count.{counted}
-use Rattle.smb_link.specs.Story.{told, is_of_share}
+use Rattle.smb_link.specs.Story.{story_with, is_of_share}
 use Rattle.smb_link.specs.declared.event.Event.{Event}
 use Rattle.smb_link.specs.declared.event.Event.TheVariants as event
 
@@ -41,7 +41,7 @@ own events = filter (λ e. not (is_of_share e)) events
 -- its counts counted
 pub record Came (events : List Event) (old new : Seen) : Type 0 where
   pub gained : List Event
-  pub story : new.story ≡ told old.story gained
+  pub story : new.story ≡ story_with old.story gained
   pub clients : own gained ≡ events
   pub connect_faults : new.connect_faults ≡ counted_all old.connect_faults is_refusal events
   pub cuts : new.cuts ≡ counted_all old.cuts is_cut events

@@ -26,7 +26,7 @@ pub data Wish : Type 0 where
   Close : File → Wish
 
 -- what the last NEGOTIATE reply said of the server
-pub record Facts : Type 0 where
+pub record ServerFacts : Type 0 where
   pub capabilities : ℕ
   pub max_transact : ℕ
   pub max_read : ℕ
@@ -35,7 +35,7 @@ pub record Facts : Type 0 where
 -- what a call looks at beside its replies, when it makes a request or answers
 pub record Known : Type 0 where
   pub locals : Locals
-  pub facts : Facts
+  pub facts : ServerFacts
 
 -- what is left of a call: a request, and what comes after its reply; a look at what is known; or the answer. A reply is seen without
 -- its file id, lease and durable grant.

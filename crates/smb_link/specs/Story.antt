@@ -11,8 +11,8 @@ use Rattle.smb_link.specs.declared.faults.Got as answer
 use Rattle.smb_link.specs.declared.faults.Got.TheVariants as got
 
 -- a story with more events at its end; what is not told stays untold
-abbrev pub told : Option (List Event) → List Event → Option (List Event)
-told story events = option_map (λ so_far. so_far ++ events) story
+abbrev pub story_with : Option (List Event) → List Event → Option (List Event)
+story_with story events = option_map (λ so_far. so_far ++ events) story
 
 -- what the share did, of itself or for another client; all else is the client's own
 abbrev pub is_of_share : Event → Bool
@@ -31,7 +31,7 @@ is_of_share (event.Dropped key) = true
 
 -- a story gained these events of the client, and any of the share before them
 abbrev pub Gains : List Event → Option (List Event) → Option (List Event) → Type 0
-Gains own old new = (share : List Event) × (list_all is_of_share share ≡ true) × (new ≡ told old (share ++ own))
+Gains own old new = (share : List Event) × (list_all is_of_share share ≡ true) × (new ≡ story_with old (share ++ own))
 
 -- the call failed for the connection, not for want of memory
 abbrev pub is_failed : Result (Unit {0}) LinkFail → Bool

@@ -4,7 +4,7 @@ ghost use Rattle.std.specs.Prelude.{◌≡◌, ◌≤◌, ◌<◌, ◌-◌, ◌&
 ghost use Rattle.smb_link.specs.declared.event.Event.TheVariants as event;
 ghost use Rattle.smb_link.specs.Count.{counted};
 ghost use Rattle.smb_link.specs.Given.{gives, front_of, turns_behind, turns_after, piece_of, GivesNext};
-ghost use Rattle.smb_link.specs.Story.{told, is_failed, connect_cuts, StandsAfterConnect, connect_events, send_events, receive_events, is_closed, is_quiet, IfBytes};
+ghost use Rattle.smb_link.specs.Story.{story_with, is_failed, connect_cuts, StandsAfterConnect, connect_events, send_events, receive_events, is_closed, is_quiet, IfBytes};
 
 use crate::event::{Event, EventList};
 use crate::faults::{Got, LinkFail};
@@ -309,7 +309,7 @@ impl Link for ListLink {
     ghost quiets = { λ l. l.quiets };
 
     fn connect(&mut self, _host: &str, _port: u16) -> Result<(), LinkFail>
-        ensures story { Some self.new.story ≡ told (Some self.old.story) (connect_events self.old.stands self.new.stands result) }
+        ensures story { Some self.new.story ≡ story_with (Some self.old.story) (connect_events self.old.stands self.new.stands result) }
         ensures stands { StandsAfterConnect self.old.stands self.new.stands result }
         ensures faults { self.new.connect_faults ≡ counted self.old.connect_faults (is_failed result) }
         ensures cuts { self.new.cuts ≡ counted self.old.cuts (connect_cuts self.old.stands self.new.stands result) }
@@ -338,7 +338,7 @@ impl Link for ListLink {
     }
 
     fn send(&mut self, frame: &[u8]) -> Result<(), LinkFail>
-        ensures story { Some self.new.story ≡ told (Some self.old.story) (send_events frame.now result) }
+        ensures story { Some self.new.story ≡ story_with (Some self.old.story) (send_events frame.now result) }
         ensures standing { OnOk result (IsTrue self.old.stands) }
         ensures stands { self.new.stands ≡ (self.old.stands && not (is_failed result)) }
         ensures faults { self.new.connect_faults ≡ self.old.connect_faults }
@@ -368,7 +368,7 @@ impl Link for ListLink {
     fn receive(&mut self, buf: &mut [u8]) -> Got
         requires { 0 < length buf.old }
         ensures bytes { IfBytes result (λ n. (1 ≤ n) × (n ≤ length buf.old) × IsTrue self.old.stands) }
-        ensures story { Some self.new.story ≡ told (Some self.old.story) (receive_events buf.new result) }
+        ensures story { Some self.new.story ≡ story_with (Some self.old.story) (receive_events buf.new result) }
         ensures stands { self.new.stands ≡ (self.old.stands && not (is_closed result)) }
         ensures faults { self.new.connect_faults ≡ self.old.connect_faults }
         ensures cuts { self.new.cuts ≡ counted self.old.cuts (is_closed result) }

@@ -3,6 +3,7 @@ use Rattle.std.specs.Prelude.{◌≡◌, ◌≤◌, ℕ, ◌==◌, if◌then◌e
 use Rattle.std.specs.List.{flat_map}
 use Rattle.smb_le.specs.declared.flags.ServerCaps.{ServerCaps}
 use Rattle.smb_le.specs.Numbers.{bytes_of}
+use Rattle.smb_head.specs.declared.command.TheConstants.{NEGOTIATE, SESSION_SETUP, LOGOFF, TREE_CONNECT, TREE_DISCONNECT}
 use Rattle.smb_head.specs.declared.request.Request.{Request}
 use Rattle.smb_field.specs.declared.field.Field.{Field}
 use Rattle.smb_field.specs.declared.field.Field.TheVariants.{U16, U64, Block, Any8, Any16, Any32, Any64, Offset16, Follows}
@@ -29,7 +30,7 @@ dialects = 0x10 ∷ 0x02 ∷ []
 
 abbrev pub negotiate : List ℕ → Request
 negotiate guid = record {
-  command = 0;
+  command = NEGOTIATE;
   charge = 0;
   related = false;
   tree = 0;
@@ -44,7 +45,7 @@ session_fields previous token = Any8 0 ∷ Any8 1 ∷ Any32 0 ∷ Any32 0 ∷ Of
 
 abbrev pub session_setup : ServerCaps → ℕ → ℕ → List ℕ → Request
 session_setup caps session previous token = record {
-  command = 1;
+  command = SESSION_SETUP;
   charge = charge_of caps;
   related = false;
   tree = 0;
@@ -66,7 +67,7 @@ tree_connect_body path = spelling 9 (tree_fields path) path
 -- TREE_CONNECT
 abbrev pub tree_connect : ServerCaps → ℕ → List ℕ → Request
 tree_connect caps session path = record {
-  command = 3;
+  command = TREE_CONNECT;
   charge = charge_of caps;
   related = false;
   tree = 0;
@@ -84,7 +85,7 @@ empty_body = spelling 4 no_fields []
 -- TREE_DISCONNECT
 abbrev pub tree_disconnect : Facts → Request
 tree_disconnect facts = record {
-  command = 4;
+  command = TREE_DISCONNECT;
   charge = charge_of facts.caps;
   related = false;
   tree = facts.tree;
@@ -95,7 +96,7 @@ tree_disconnect facts = record {
 -- LOGOFF
 abbrev pub logoff : Facts → Request
 logoff facts = record {
-  command = 2;
+  command = LOGOFF;
   charge = charge_of facts.caps;
   related = false;
   tree = 0;

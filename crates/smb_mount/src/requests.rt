@@ -10,6 +10,7 @@ use smb_body_a::{
     write_negotiate_request, write_session_setup_request, write_tree_connect_request,
 };
 use smb_head::Request;
+use smb_head::command::{LOGOFF, NEGOTIATE, SESSION_SETUP, TREE_CONNECT, TREE_DISCONNECT};
 use smb_le::ServerCaps;
 use std::alloc::Global;
 
@@ -53,7 +54,7 @@ pub fn negotiate(alloc: Global, guid: [u8; 16]) -> Result<Request, NoMemory>
     };
     write_negotiate_request(&mut body, &fields)?;
     Ok(Request {
-        command: 0,
+        command: NEGOTIATE,
         charge: 0,
         related: false,
         tree: 0,
@@ -81,7 +82,7 @@ pub fn session_setup(
     };
     write_session_setup_request(&mut body, &fields)?;
     Ok(Request {
-        command: 1,
+        command: SESSION_SETUP,
         charge: charge(caps),
         related: false,
         tree: 0,
@@ -105,7 +106,7 @@ pub fn tree_connect(
     let mut body = Vec::new(alloc);
     write_tree_connect_request(&mut body, &TreeConnectRequest { path: &path })?;
     Ok(Request {
-        command: 3,
+        command: TREE_CONNECT,
         charge: charge(caps),
         related: false,
         tree: 0,
@@ -135,7 +136,7 @@ pub fn tree_disconnect(alloc: Global, facts: &Facts) -> Result<Request, NoMemory
     let mut body = Vec::new(alloc);
     write_empty(&mut body, &Empty)?;
     Ok(Request {
-        command: 4,
+        command: TREE_DISCONNECT,
         charge: charge(facts.caps),
         related: false,
         tree: facts.tree,
@@ -152,7 +153,7 @@ pub fn logoff(alloc: Global, facts: &Facts) -> Result<Request, NoMemory>
     let mut body = Vec::new(alloc);
     write_empty(&mut body, &Empty)?;
     Ok(Request {
-        command: 2,
+        command: LOGOFF,
         charge: charge(facts.caps),
         related: false,
         tree: 0,

@@ -1,6 +1,6 @@
 use Rattle.std.proofs.Common.{rules, ◌≡◌, ◌∙◌, refl, sym, ap, subst, List, ℕ}
 use Rattle.smb_link.specs.Came.{seen_by}
-use Rattle.fs_core.specs.declared.part.Awaited.{Awaited}
+use Rattle.fs_core.specs.declared.reply_kind.Awaited.{Awaited}
 use Rattle.fs_core.specs.declared.wire.Wire.{Wire}
 use Rattle.fs_plain.specs.Replies.{command_of}
 use Rattle.fs_core.specs.Written.{message_of}
@@ -8,7 +8,7 @@ use Rattle.smb_head.specs.declared.request.Request.{Request}
 use Rattle.fs_core.specs.Course.{Does, Tally, tally_of, with_request, AwaitedSo, IsMessageOf, request_in}
 use Rattle.fs_core.proofs.Courses.{asked_unmade, asked_starved, asked_unsent, asked_so}
 use Rattle.smb_base.specs.declared.names.Mid.{Mid}
-use Rattle.fs_core.specs.declared.part.Kind.TheVariants as kind
+use Rattle.fs_core.specs.declared.reply_kind.ReplyFault.TheVariants as kind
 use Rattle.fs_core.specs.declared.wire.Stop.TheVariants as stop
 use Rattle.fs_core.specs.Exchange.{ReplyLeads}
 use Rattle.fs_core.specs.Asking.{IsAsideBody}

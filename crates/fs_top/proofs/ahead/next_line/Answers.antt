@@ -6,12 +6,12 @@ use Rattle.fs_top.proofs.ahead.next_line.Goals as goal
 pub returns-in-Line-clause-brings : goal.returns-in-Line-clause-brings
 returns-in-Line-clause-brings g c =
     let a = c.in-Line.ensures in
-    line_brings c.args.lines.now c.next.new.self (g.S.Source.left c.args.input.now) (g.S.Source.left c.next.new.source) a.gave.0 c.in-Line.text c.number.result c.told.result
-    c.requires a.number a.gave.1.took a.told c.number.ensures c.told.ensures.brings
+    line_brings c.args.lines.now c.next.new.self (g.S.Source.left c.args.input.now) (g.S.Source.left c.next.new.source) a.gave.0 c.in-Line.text c.number.result c.call_of_line.result
+    c.requires a.number a.gave.1.took a.told c.number.ensures c.call_of_line.ensures.brings
 
 pub returns-in-Line-clause-faults : goal.returns-in-Line-clause-faults
 returns-in-Line-clause-faults g c =
-    c.in-Line.ensures.faults ∙ ap (counted (g.S.Source.faults c.args.input.now)) (sym (line_no_source c.number.result c.in-Line.text c.told.result c.told.ensures.brings))
+    c.in-Line.ensures.faults ∙ ap (counted (g.S.Source.faults c.args.input.now)) (sym (line_no_source c.number.result c.in-Line.text c.call_of_line.result c.call_of_line.ensures.brings))
 
 pub returns-in-NotText-clause-brings : goal.returns-in-NotText-clause-brings
 returns-in-NotText-clause-brings g c =

@@ -18,40 +18,40 @@ use Rattle.fs_top.proofs.mount.authenticate.Goals as goal
 pub returns-in-Err-clause-leads : goal.returns-in-Err-clause-leads
 returns-in-Err-clause-leads g c = rests_not c.args.client.now.wire.next (g.L.Link.story c.args.link.now)
 
-pub returns-in-Err-asked-clause-leads : goal.returns-in-Err-asked-clause-leads
-returns-in-Err-asked-clause-leads g c = c.in-Err-asked.ensures.leads (session_asks _ _ _ _ c.in-Ok.request c.in-Ok.ensures.value c.in-Ok.ensures.written)
+pub returns-in-Err-aside_reply-clause-leads : goal.returns-in-Err-aside_reply-clause-leads
+returns-in-Err-aside_reply-clause-leads g c = c.in-Err-aside_reply.ensures.leads (session_asks _ _ _ _ c.in-Ok.request c.in-Ok.ensures.value c.in-Ok.ensures.written)
 
 pub returns-in-Ok-reply-clause-leads : goal.returns-in-Ok-reply-clause-leads
-returns-in-Ok-reply-clause-leads g c = c.in-Ok-asked.ensures.leads (session_asks _ _ _ _ c.in-Ok.request c.in-Ok.ensures.value c.in-Ok.ensures.written)
+returns-in-Ok-reply-clause-leads g c = c.in-Ok-aside_reply.ensures.leads (session_asks _ _ _ _ c.in-Ok.request c.in-Ok.ensures.value c.in-Ok.ensures.written)
 
 pub returns-clause-leads : goal.returns-clause-leads
 returns-clause-leads g c =
-    let body : HasBody 1 c.in-Ok-asked.part = subst (λ (n : ℕ). HasBody n c.in-Ok-asked.part) (ap (λ (r : Request). r.command) c.in-Ok.ensures.value) c.in-Ok-asked.ensures.body in
-    let ends : SessionEnds c.args.state (head_of c.in-Ok-asked.part) c.in-Ok-asked.part (Err c.in-Err-reply.fault) =
+    let body : HasBody 1 c.in-Ok-aside_reply.part = subst (λ (n : ℕ). HasBody n c.in-Ok-aside_reply.part) (ap (λ (r : Request). r.command) c.in-Ok.ensures.value) c.in-Ok-aside_reply.ensures.body in
+    let ends : SessionEnds c.args.state (head_of c.in-Ok-aside_reply.part) c.in-Ok-aside_reply.part (Err c.in-Err-reply.fault) =
     subst (λ (p : List ℕ). SessionEnds c.args.state (head_of p) p (Err c.in-Err-reply.fault)) c.as_slice.ensures c.in-Err-reply.ensures in
-    rests_leaves c.end_of.result c.args.client.now.wire.next c.asked.new.client.wire.next (g.L.Link.story c.args.link.now) (g.L.Link.story c.asked.new.link)
-    (refused_end c.in-Err-reply.fault c.asked.new.client.wire.received c.end_of.result c.end_of.ensures (λ b. session_sound c.args.state c.in-Ok-asked.part c.in-Err-reply.fault b body ends))
-    (c.in-Ok-asked.ensures.leads (session_asks _ _ _ _ c.in-Ok.request c.in-Ok.ensures.value c.in-Ok.ensures.written))
+    rests_leaves c.end_of.result c.args.client.now.wire.next c.aside_reply.new.client.wire.next (g.L.Link.story c.args.link.now) (g.L.Link.story c.aside_reply.new.link)
+    (refused_end c.in-Err-reply.fault c.aside_reply.new.client.wire.received c.end_of.result c.end_of.ensures (λ b. session_sound c.args.state c.in-Ok-aside_reply.part c.in-Err-reply.fault b body ends))
+    (c.in-Ok-aside_reply.ensures.leads (session_asks _ _ _ _ c.in-Ok.request c.in-Ok.ensures.value c.in-Ok.ensures.written))
 
 pub returns-in-Ok-reply-clause-came : goal.returns-in-Ok-reply-clause-came
 returns-in-Ok-reply-clause-came g c =
     let seen = seen_by g.L.Link.story g.L.Link.connect_faults g.L.Link.cuts g.L.Link.quiets in
-    step_taken c.in-Ok.request (session_setup c.args.state.server.caps c.args.state.session c.args.state.previous authenticate_token) (λ (part : List ℕ). SessionEnds c.args.state (head_of part) part (Ok c.in-Ok-reply.next)) c.args.client.now.wire.next c.as_slice.result.now c.in-Ok-asked.part
-    (tally_of c.args.client.now.wire) (tally_of c.asked.new.client.wire) (seen c.args.link.now) (seen c.asked.new.link) c.in-Ok.ensures.value c.as_slice.ensures c.in-Ok-asked.ensures.came c.in-Ok-reply.ensures
+    step_taken c.in-Ok.request (session_setup c.args.state.server.caps c.args.state.session c.args.state.previous authenticate_token) (λ (part : List ℕ). SessionEnds c.args.state (head_of part) part (Ok c.in-Ok-reply.next)) c.args.client.now.wire.next c.as_slice.result.now c.in-Ok-aside_reply.part
+    (tally_of c.args.client.now.wire) (tally_of c.aside_reply.new.client.wire) (seen c.args.link.now) (seen c.aside_reply.new.link) c.in-Ok.ensures.value c.as_slice.ensures c.in-Ok-aside_reply.ensures.came c.in-Ok-reply.ensures
 
 pub returns-in-Err-clause-came : goal.returns-in-Err-clause-came
 returns-in-Err-clause-came g c =
     let seen = seen_by g.L.Link.story g.L.Link.connect_faults g.L.Link.cuts g.L.Link.quiets in
     step_unmade (session_setup c.args.state.server.caps c.args.state.session c.args.state.previous authenticate_token) (λ (why : MountFault) (part : List ℕ). SessionEnds c.args.state (head_of part) part (Err why)) c.args.client.now.wire.next (tally_of c.args.client.now.wire) (tally_of c.args.client.now.wire) (seen c.args.link.now)
 
-pub returns-in-Err-asked-clause-came : goal.returns-in-Err-asked-clause-came
-returns-in-Err-asked-clause-came g c =
+pub returns-in-Err-aside_reply-clause-came : goal.returns-in-Err-aside_reply-clause-came
+returns-in-Err-aside_reply-clause-came g c =
     let seen = seen_by g.L.Link.story g.L.Link.connect_faults g.L.Link.cuts g.L.Link.quiets in
-    step_broken c.in-Ok.request (session_setup c.args.state.server.caps c.args.state.session c.args.state.previous authenticate_token) (λ (why : MountFault) (part : List ℕ). SessionEnds c.args.state (head_of part) part (Err why)) c.in-Err-asked.end c.args.client.now.wire.next (tally_of c.args.client.now.wire) (tally_of c.asked.new.client.wire) (seen c.args.link.now) (seen c.asked.new.link)
-    c.in-Ok.ensures.value c.in-Err-asked.ensures.came
+    step_broken c.in-Ok.request (session_setup c.args.state.server.caps c.args.state.session c.args.state.previous authenticate_token) (λ (why : MountFault) (part : List ℕ). SessionEnds c.args.state (head_of part) part (Err why)) c.in-Err-aside_reply.end c.args.client.now.wire.next (tally_of c.args.client.now.wire) (tally_of c.aside_reply.new.client.wire) (seen c.args.link.now) (seen c.aside_reply.new.link)
+    c.in-Ok.ensures.value c.in-Err-aside_reply.ensures.came
 
 pub returns-clause-came : goal.returns-clause-came
 returns-clause-came g c =
     let seen = seen_by g.L.Link.story g.L.Link.connect_faults g.L.Link.cuts g.L.Link.quiets in
-    step_refused c.in-Ok.request (session_setup c.args.state.server.caps c.args.state.session c.args.state.previous authenticate_token) (λ (why : MountFault) (part : List ℕ). SessionEnds c.args.state (head_of part) part (Err why)) c.in-Err-reply.fault c.end_of.result c.args.client.now.wire.next c.as_slice.result.now c.in-Ok-asked.part
-    (tally_of c.args.client.now.wire) (tally_of c.asked.new.client.wire) (seen c.args.link.now) (seen c.asked.new.link) c.in-Ok.ensures.value c.as_slice.ensures c.end_of.ensures c.in-Ok-asked.ensures.came c.in-Err-reply.ensures
+    step_refused c.in-Ok.request (session_setup c.args.state.server.caps c.args.state.session c.args.state.previous authenticate_token) (λ (why : MountFault) (part : List ℕ). SessionEnds c.args.state (head_of part) part (Err why)) c.in-Err-reply.fault c.end_of.result c.args.client.now.wire.next c.as_slice.result.now c.in-Ok-aside_reply.part
+    (tally_of c.args.client.now.wire) (tally_of c.aside_reply.new.client.wire) (seen c.args.link.now) (seen c.aside_reply.new.link) c.in-Ok.ensures.value c.as_slice.ensures c.end_of.ensures c.in-Ok-aside_reply.ensures.came c.in-Err-reply.ensures

@@ -4,7 +4,7 @@ use Rattle.smb_link.specs.declared.event.Event.TheVariants.{NotJoined}
 use Rattle.smb_link.specs.declared.faults.LinkFail.{LinkFail}
 use Rattle.smb_link.specs.Came.{seen_by, Came}
 use Rattle.fs_top.specs.Run.{opening}
-use Rattle.fs_top.proofs.Asked.{asked_heard, asked_cut}
+use Rattle.fs_top.proofs.PingSent.{asked_heard, asked_cut}
 use Rattle.smb_link.proofs.CameLaws.{came_then, came_connect, came_send}
 use Rattle.fs_top.proofs.ping.ping.Goals as goal
 

@@ -6,7 +6,7 @@ use Rattle.fs_core.specs.Course.{Does, tally_of}
 use Rattle.fs_top.specs.declared.run_end.End.{End}
 use Rattle.fs_top.specs.Course.{AsksSo}
 use Rattle.fs_top.proofs.Courses.{asks_so, asks_stop}
-use Rattle.fs_top.proofs.mount.asked.Goals as goal
+use Rattle.fs_top.proofs.mount.aside_reply.Goals as goal
 
 pub returns-in-Ok-clause-came : goal.returns-in-Ok-clause-came
 returns-in-Ok-clause-came g c =

@@ -6,17 +6,17 @@ use Rattle.smb_body_b.specs.declared.contexts.ContextSet.{ContextSet}
 use Rattle.smb_body_b.specs.declared.create.CreateRequest.{CreateRequest}
 use Rattle.share_spec.specs.Built.{is_built}
 use Rattle.fs_plain.specs.Wire.{bytes_at}
-use Rattle.fs_plain.specs.Requests as wire
-use Rattle.share_box.specs.declared.requests.Asked.{Asked}
-use Rattle.share_box.specs.declared.requests.Asked.TheVariants.{Aside, Share}
+use Rattle.fs_plain.specs.Requests.{WireRequest}
+use Rattle.share_box.specs.declared.requests.ParsedRequest.{ParsedRequest}
+use Rattle.share_box.specs.declared.requests.ParsedRequest.TheVariants.{Aside, Share}
 
 -- the same in the words of the wire
-abbrev pub as_asked : Asked → wire.Asked
-as_asked Aside = wire.Asked.Aside
-as_asked (Share related r) = wire.Asked.Share related r
+abbrev pub wire_request_of : ParsedRequest → WireRequest
+wire_request_of Aside = WireRequest.Aside
+wire_request_of (Share related r) = WireRequest.Share related r
 
 -- the share takes what is asked for
-abbrev pub is_taken : Asked → Bool
+abbrev pub is_taken : ParsedRequest → Bool
 is_taken Aside = true
 is_taken (Share related r) = is_built r
 

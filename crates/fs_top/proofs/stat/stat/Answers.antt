@@ -13,7 +13,7 @@ use Rattle.smb_link.specs.Came.{seen_by}
 use Rattle.std.specs.Prelude.{is_some}
 use Rattle.fs_types.specs.declared.answer.Answer.{Answer}
 use Rattle.fs_top.proofs.Courses.{converses_memory, converses_none, converses_as}
-use Rattle.fs_top.proofs.call.stat.Goals as goal
+use Rattle.fs_top.proofs.stat.stat.Goals as goal
 
 pub returns-in-Ok-clause-answers : goal.returns-in-Ok-clause-answers
 returns-in-Ok-clause-answers g c =

@@ -5,7 +5,7 @@ ghost use Rattle.fs_plain.specs.Replies.{is_error, is_interim, has_aside_body, i
 ghost use Rattle.fs_core.specs.Seen.{is_done};
 ghost use Rattle.fs_core.specs.Judged.{has_share_body, has_done_body, has_reply_body, is_notice, look_of, looked, looked_by, look_at_reply, look_at_final};
 
-use crate::read::{CLOSE, CREATE, QUERY_INFO, is_done, read_opened};
+use crate::read::{is_done, read_opened};
 use bitflags::Flags;
 use smb_base::{Mid, Status};
 use smb_body_a::{
@@ -13,27 +13,18 @@ use smb_body_a::{
 };
 use smb_body_b::read_close_reply;
 use smb_body_c::{read_buffer_reply, read_error_reply, read_lease_break};
+use smb_head::command::{
+    CLOSE, CREATE, NEGOTIATE, OPLOCK_BREAK, QUERY_INFO, SESSION_SETUP, TREE_CONNECT,
+};
 use smb_head::{Head, read_head};
 use smb_le::HeadFlags;
-
-/// The command NEGOTIATE (MS-SMB2 2.2.3).
-const NEGOTIATE: u16 = 0;
-
-/// The command SESSION_SETUP (MS-SMB2 2.2.5).
-const SESSION_SETUP: u16 = 1;
-
-/// The command TREE_CONNECT (MS-SMB2 2.2.9).
-const TREE_CONNECT: u16 = 3;
-
-/// The command of a lease break notification (MS-SMB2 2.2.23.2).
-const OPLOCK_BREAK: u16 = 18;
 
 /// The id of a message that answers no request (MS-SMB2 2.2.1).
 const NO_REQUEST: Mid = Mid(u64::MAX);
 
 /// What is wrong with a frame or with a message of it.
 #[derive(Clone, Copy, Debug, PartialEq, Eq)]
-pub enum Kind {
+pub enum ReplyFault {
     /// The frame's first byte is not zero, or it is too long.
     Length,
     /// A message has no header.
@@ -67,7 +58,7 @@ pub enum Look {
     /// The final reply to the request that is awaited.
     Final,
     /// What may not come.
-    Fault(Kind),
+    Fault(ReplyFault),
 }
 
 // What a message is to a client that awaits the reply to this request, or to none.
@@ -76,7 +67,7 @@ pub(crate) fn look_at(part: &[u8], awaited: Option<Awaited>) -> Look
 {
     match read_head(part) {
         Ok(head) => look_under(&head, part, awaited),
-        Err(_) => Look::Fault(Kind::Head),
+        Err(_) => Look::Fault(ReplyFault::Head),
     }
 }
 
@@ -89,18 +80,18 @@ fn look_under(head: &Head, part: &[u8], awaited: Option<Awaited>) -> Look
     }
     match awaited {
         Some(request) => look_for(head, part, request),
-        None => Look::Fault(Kind::Stranger),
+        None => Look::Fault(ReplyFault::Stranger),
     }
 }
 
 // A message that is passed over where it is what it should be.
 fn passed_where(right: bool) -> Look
-    ensures { result ≡ (if right then Look.Passed else Look.Fault Kind.Body) }
+    ensures { result ≡ (if right then Look.Passed else Look.Fault ReplyFault.Body) }
 {
     if right {
         Look::Passed
     } else {
-        Look::Fault(Kind::Body)
+        Look::Fault(ReplyFault::Body)
     }
 }
 
@@ -109,10 +100,10 @@ fn look_for(head: &Head, part: &[u8], request: Awaited) -> Look
     ensures { result ≡ looked_by request head.now part.now }
 {
     if head.mid != request.mid {
-        return Look::Fault(Kind::Stranger);
+        return Look::Fault(ReplyFault::Stranger);
     }
     if head.command != request.command || !head.flags.contains(HeadFlags::REPLY) {
-        return Look::Fault(Kind::Body);
+        return Look::Fault(ReplyFault::Body);
     }
     look_at_reply(head, part)
 }
@@ -134,7 +125,7 @@ fn look_at_final(head: &Head, part: &[u8]) -> Look
     if has_reply_body(head.status, head.command, part) {
         Look::Final
     } else {
-        Look::Fault(Kind::Body)
+        Look::Fault(ReplyFault::Body)
     }
 }
 

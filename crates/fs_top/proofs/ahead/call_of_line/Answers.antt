@@ -1,7 +1,7 @@
 use Rattle.std.proofs.Common.{◌<◌, arith}
 use Rattle.fs_top.specs.Script.{greatest}
 use Rattle.fs_top.proofs.Coming.{skip_brings, call_brings}
-use Rattle.fs_top.proofs.ahead.told.Goals as goal
+use Rattle.fs_top.proofs.ahead.call_of_line.Goals as goal
 
 pub returns-in-Ok-Call-default-Stat-clause-brings : goal.returns-in-Ok-Call-default-Stat-clause-brings
 returns-in-Ok-Call-default-Stat-clause-brings c =

@@ -12,7 +12,7 @@ use Rattle.fs_top.proofs.Courses.{converses_starved, converses_memory, converses
 use Rattle.fs_top.specs.Progress.{reads_by}
 use Rattle.fs_top.proofs.Progressing.{reads_from, reads_after}
 use Rattle.fs_core.specs.Foul.{foul_stop}
-use Rattle.fs_top.proofs.call.stat_open.Goals as goal
+use Rattle.fs_top.proofs.stat.stat_open.Goals as goal
 
 pub returns-in-Err-clause-answers : goal.returns-in-Err-clause-answers
 returns-in-Err-clause-answers g c =

@@ -5,7 +5,7 @@ use Rattle.fs_top.proofs.Calling.{answers_nothing}
 use Rattle.smb_link.specs.Came.{seen_by}
 use Rattle.std.specs.Prelude.{is_some}
 use Rattle.fs_top.proofs.Courses.{converses_memory}
-use Rattle.fs_top.proofs.call.stat_short.Goals as goal
+use Rattle.fs_top.proofs.stat.stat_short.Goals as goal
 
 pub returns-then-len-gt-MOST_UNITS-clause-answers : goal.returns-then-len-gt-MOST_UNITS-clause-answers
 returns-then-len-gt-MOST_UNITS-clause-answers g c = answers_nothing (IsStatThere c.args.path.now) c.args.number c.args.client.now.wire.next (g.L.Link.story c.args.link.now)

@@ -13,7 +13,7 @@ use Rattle.std.specs.Prelude.{is_some}
 use Rattle.fs_top.proofs.Courses.{converses_none, converses_as}
 use Rattle.fs_top.specs.Progress.{reads_by}
 use Rattle.fs_top.proofs.Progressing.{reads_none}
-use Rattle.fs_top.proofs.call.stat_opened.Goals as goal
+use Rattle.fs_top.proofs.stat.stat_opened.Goals as goal
 
 pub returns-in-Opened-clause-answers : goal.returns-in-Opened-clause-answers
 returns-in-Opened-clause-answers g c =

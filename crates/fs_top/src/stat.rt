@@ -6,7 +6,7 @@ ghost use Rattle.smb_link.specs.Stat.{kind_of, shown_mode, stat_answer};
 ghost use Rattle.smb_mount.specs.Requests.{charge_of};
 ghost use Rattle.fs_plain.specs.World.{mid_of};
 ghost use Rattle.fs_plain.specs.Replies.{command_of};
-ghost use Rattle.fs_core.specs.declared.part.Kind.TheVariants as kind;
+ghost use Rattle.fs_core.specs.declared.reply_kind.ReplyFault.TheVariants as kind;
 ghost use Rattle.fs_core.specs.declared.wire.Stop.TheVariants as stop;
 ghost use Rattle.smb_link.specs.Came.{seen_by};
 ghost use Rattle.fs_core.specs.Written.{IsAlone};
@@ -18,12 +18,13 @@ ghost use Rattle.fs_top.specs.Talks.{Talks, ExchangesTo};
 
 use crate::client::{Client, OPTIONS, PATIENCE};
 use fs_core::{
-    Awaited, Kind, Place, Stop, close_message, create_message, query_message, send_request,
+    Awaited, ReplyFault, RequestPlace, Stop, close_message, create_message, query_message, send_request,
     take_reply,
 };
-use fs_types::{Answer, Kind as FileKind, StatOf};
+use fs_types::{Answer, Kind, StatOf};
 use share_spec::{Rep, RepBody};
 use smb_base::{Bytes, Errno, Fid, Mid, NoMemory, Status, Units, errno_of};
+use smb_head::command::{CLOSE, CREATE, QUERY_INFO};
 use smb_link::{Clock, Link, Source};
 use smb_mount::Facts;
 use smb_names::{NameFault, NameMap, split_path, wire_path};
@@ -40,13 +41,6 @@ const ATTRIBUTES: u32 = 0x0010_0080;
 
 /// FILE_OPEN: what is there is opened (MS-SMB2 2.2.13).
 const OPEN: u32 = 1;
-
-/// The commands of the requests that a call makes (MS-SMB2 2.2.1.2).
-const CREATE: u16 = 5;
-
-const CLOSE: u16 = 6;
-
-const QUERY_INFO: u16 = 16;
 
 /// LARGE_MTU (MS-SMB2 2.2.4).
 const LARGE_MTU: u32 = 4;
@@ -186,7 +180,7 @@ fn stat_opened<S: Source, L: Link, C: Clock>(
         RepBody::Opened { fid, .. } => {
             stat_open(alloc, input, link, clock, client, facts, number, fid)
         }
-        _ => Err(Stop::Fault(Kind::Body)),
+        _ => Err(Stop::Fault(ReplyFault::Body)),
     }
 }
 
@@ -260,7 +254,7 @@ fn stat_known<S: Source, L: Link, C: Clock>(
 }
 
 // Where the next request belongs, and its id.
-fn take_place(client: &mut Client, facts: &Facts) -> Result<Place, Stop>
+fn take_place(client: &mut Client, facts: &Facts) -> Result<RequestPlace, Stop>
     ensures mid { IfOk result (λ p. (p.mid.0 ≡ client.old.wire.next) × (p.mid.0 < 2 ^ 64 - 1)) }
     ensures next { IfOk result (λ _. client.new.wire.next ≡ client.old.wire.next + 1) }
     ensures ready { IsReady client.old.wire → IsReady client.new.wire }
@@ -271,14 +265,14 @@ fn take_place(client: &mut Client, facts: &Facts) -> Result<Place, Stop>
 {
     match client.wire.take_id() {
         Some(mid) => Ok(place(facts, mid)),
-        None => Err(Stop::Fault(Kind::Credit)),
+        None => Err(Stop::Fault(ReplyFault::Credit)),
     }
 }
 
-fn place(facts: &Facts, mid: Mid) -> Place
+fn place(facts: &Facts, mid: Mid) -> RequestPlace
     ensures { result.mid ≡ mid }
 {
-    Place {
+    RequestPlace {
         mid,
         charge: charge(facts),
         session: facts.session,
@@ -315,7 +309,7 @@ fn exchange<S: Source, L: Link, C: Clock>(
     requires mid { mid_of message.now ≡ mid }
     requires low { mid.0 < 2 ^ 64 - 1 }
     requires taken { client.old.wire.next ≡ mid.0 + 1 }
-    ensures opened { IfOk result (λ reply. command ≡ 5 → IsCreated reply) }
+    ensures opened { IfOk result (λ reply. command ≡ CREATE → IsCreated reply) }
     ensures leads { Exchanges number mid message.now result (L.story link.old) (L.story link.new) }
     ensures came { Does (ConversesSo (ExchangesTo number mid message.now) (is_some client.old.ahead.over) (is_some client.new.ahead.over) (record (tally_of client.old.wire) { next = mid.0 }) (tally_of client.new.wire) result) (seen_by L.story L.connect_faults L.cuts L.quiets link.old) (seen_by L.story L.connect_faults L.cuts L.quiets link.new) }
     ensures reads { OnOk result (ReadsOn (reads_by S.left S.faults client.old.ahead input.old) (reads_by S.left S.faults client.new.ahead input.new)) }
@@ -380,10 +374,10 @@ fn stat_answer(info: &Rep) -> Answer
     }
 }
 
-fn kind_of(dir: bool) -> FileKind
+fn kind_of(dir: bool) -> Kind
     ensures { result ≡ kind_of dir }
 {
-    if dir { FileKind::Dir } else { FileKind::File }
+    if dir { Kind::Dir } else { Kind::File }
 }
 
 // The mode that is shown.
