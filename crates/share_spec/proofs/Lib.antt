@@ -1,2 +1,3 @@
 mod Examples
+mod Rows
 pub mod Cuts

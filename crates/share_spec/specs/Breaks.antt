@@ -13,7 +13,7 @@ use Rattle.share_spec.specs.declared.request.Req.{Req}
 use Rattle.share_spec.specs.declared.request.Req.TheVariants as req
 use Rattle.share_spec.specs.declared.share.Share.{Share}
 use Rattle.share_spec.specs.Names.{is_name, components}
-use Rattle.share_spec.specs.State.{has, is_pending}
+use Rattle.share_spec.specs.State.{has, is_directory, is_pending}
 use Rattle.share_spec.specs.Place.{place_of}
 use Rattle.share_spec.specs.Create.{is_disposition, overwrites, has_unshared, refusal_of_kind, refusal_of_read_only}
 
@@ -40,12 +40,12 @@ is_beneath [] entries directory node = false
 is_beneath (level ∷ levels) entries directory node =
     list_any (λ e. e.node == node && (e.directory == directory || is_beneath levels entries directory e.directory)) entries
 
--- the bits that a lease has to lose for a Create of what is there: those above where it is on the same node, and H where the Create
--- is to delete a directory above it
+-- the bits that a lease has to lose for a Create of what is there: those above where it is on the same node, and H where it is on a
+-- file and the Create is to delete a directory above that file
 abbrev pub gone_from : Share → Wanted → ℕ → Lease → ℕ
 gone_from s w node l =
     if l.node == node then bits_of_create s w node
-    else if has w.options 0x1000 && is_beneath s.entries s.entries node l.node then 2 else 0
+    else if has w.options 0x1000 && not (is_directory s.nodes l.node) && is_beneath s.entries s.entries node l.node then 2 else 0
 
 -- the leases that have such a bit, each with the state to break it to
 abbrev pub needs_in : Share → Wanted → ℕ → List Lease → List (Key × ℕ)

@@ -11,6 +11,7 @@ use crate::create::{
 use crate::entry::{Entry, is_pending};
 use crate::lease::{BreakNeeds, Lease};
 use crate::names::{are_names, components};
+use crate::node::is_directory;
 use crate::opens::has_unshared;
 use crate::place::{Found, Place, place_of};
 use crate::request::{Req, Who};
@@ -92,7 +93,10 @@ fn gone_from(s: &Share, w: Wanted, node: u64, lease: &Lease) -> u8
         return bits_of_create(s, w, node);
     }
     let entries = s.entries.as_slice();
-    if has(w.options, DELETE_ON_CLOSE) && is_beneath(entries, entries, node, lease.node) {
+    if has(w.options, DELETE_ON_CLOSE)
+        && !is_directory(s.nodes.as_slice(), lease.node)
+        && is_beneath(entries, entries, node, lease.node)
+    {
         return 2;
     }
     0
