@@ -1,6 +1,6 @@
 -- The ids of a connection's messages (MS-SMB2 3.2.4.1.6 and 3.2.5.1.4): 0 at first; n credits grant the next n numbers, but never the
 -- greatest one of 64 bits, which is the id of what answers no request; a request uses the least ones that may be used.
-use Rattle.std.specs.Prelude.{ℕ, zero, suc, ◌+◌, ◌-◌, ◌^◌, ◌==◌, Bool, not, nat_lt, max, List, [], ◌∷◌, ◌++◌, length, take}
+use Rattle.std.specs.Prelude.{ℕ, zero, suc, ◌+◌, ◌-◌, ◌^◌, ◌==◌, Bool, not, nat_lt, max, List, [], ◌∷◌, ◌++◌, length, take, slice_index}
 use Rattle.std.specs.List.{filter, list_any}
 
 -- the numbers granted so far on the connection, and those of them that were used, each in order
@@ -24,6 +24,10 @@ is_in used id = list_any (λ u. u == id) used
 -- the ids that may be used: those granted, less those used
 unfoldable pub usable : Ids → List ℕ
 usable ids = filter (λ id. not (is_in ids.used id)) ids.granted
+
+-- the least one of them
+abbrev pub least : Ids → ℕ
+least ids = slice_index (usable ids) 0
 
 -- so many credits more
 unfoldable pub granted_more : ℕ → Ids → Ids

@@ -8,6 +8,8 @@ fn ids_are_granted_and_used_in_order(rt: HostRuntime) {
     assert_eq!(rt; window.free(), 1);
     window.grant(2);
     assert_eq!(rt; window.free(), 3);
+    let mut tried = window.copy();
+    assert_eq!(rt; tried.take(3), Some(Mid(0)));
     assert_eq!(rt; window.take(1), Some(Mid(0)));
     assert_eq!(rt; window.take(3), None);
     assert_eq!(rt; window.take(2), Some(Mid(1)));

@@ -1,8 +1,8 @@
 //! The ids that may be used.
 
-ghost use Rattle.std.specs.Prelude.{◌≡◌, ◌≤◌, ◌<◌, ◌+◌, ◌++◌, ◌∷◌, [], length, take, IfSome, IfNone};
+ghost use Rattle.std.specs.Prelude.{◌≡◌, ◌≤◌, ◌<◌, ◌+◌, ◌++◌, ◌∷◌, [], length, IfSome, IfNone};
 ghost use Rattle.std.specs.List.{All};
-ghost use Rattle.smb_credit.specs.Window.{usable, granted_more, after_use, numbers};
+ghost use Rattle.smb_credit.specs.Window.{usable, least, granted_more, after_use, numbers};
 
 use smb_base::Mid;
 use std::marker::Model;
@@ -44,15 +44,16 @@ impl Window {
 
         // They are the least ones that may be used.
         ensures some { IfSome result (λ mid. (charge ≤ length (usable self.old))
-            × (take 1 (usable self.old) ≡ mid.0 ∷ [])
+            × (mid.0 ≡ least self.old)
             × (self.new ≡ after_use charge self.old)) }
 
         // None exactly where fewer may be used.
         ensures none { IfNone result ((length (usable self.old) < charge) × (self.new ≡ self.old)) }
 
-        // They follow one another, behind all that were used.
+        // They follow one another, behind all that were used, of which there are as many as numbers below them.
         ensures follow { IfSome result (λ mid. (self.new.used ≡ self.old.used ++ numbers mid.0 charge)
-            × All (λ id. id < mid.0) self.old.used) }
+            × All (λ id. id < mid.0) self.old.used
+            × (mid.0 ≡ length self.old.used)) }
     {
         let charge = u64::from(charge);
         if self.top - self.next < charge {
@@ -68,6 +69,16 @@ impl Window {
         ensures { self.new ≡ granted_more n self.old }
     {
         self.top = self.top.saturating_add(u64::from(n));
+    }
+
+    /// The same ids once more, to try on it what is to be sent.
+    pub fn copy(&self) -> Window
+        ensures { result ≡ self.now }
+    {
+        Window {
+            next: self.next,
+            top: self.top,
+        }
     }
 
     /// How many ids may be used.
