@@ -1,6 +1,6 @@
 -- A message that pays what is owed has the body that its command and its status say.
 use Rattle.std.proofs.Common.{rules, arith, ◌≡◌, ◌∙◌, refl, ap, subst, ℕ, ◌==◌, ◌&&◌, ◌||◌, Bool, true, false, if◌then◌else◌, List, Option, Some, None, Result, Ok, Err}
-use Rattle.std.specs.Prelude.{is_some, option_map}
+use Rattle.std.specs.Prelude.{is_some, slice_index}
 use Rattle.smb_le.specs.Numbers.{number_at}
 use Rattle.smb_head.specs.declared.command.TheConstants.{CREATE, CLOSE, QUERY_INFO}
 use Rattle.smb_head.specs.declared.head.Head.{Head}
@@ -17,7 +17,7 @@ use Rattle.share_spec.specs.declared.request.RepBody.TheVariants as body
 use Rattle.share_spec.specs.Built.{is_built}
 use Rattle.share_spec.specs.State.{has}
 use Rattle.fs_plain.specs.Wire.{has_body, lies, bytes_at, units_in}
-use Rattle.fs_plain.specs.Requests.{WireRequest, share_request, fid_at, wanted_lease, create_with, is_create, create_asked, close_asked, is_query, query_asked, is_aside, by_command, asked_with, wire_request}
+use Rattle.fs_plain.specs.Requests.{WireRequest, share_request, fid_at, asked_lease, create_with, is_create, create_asked, close_asked, is_query, query_asked, is_aside, by_command, asked_with, wire_request}
 use Rattle.fs_plain.specs.Replies.{command_of, is_error, opened_in, closed_in, info_of, info_in, body_in, reply_of, reply_by_status, is_aside_by_status}
 use Rattle.fs_plain.specs.View.{Item, Flight, is_of_call, IsNext, IsItems, BelongsTo, item_with}
 use Rattle.smb_link.specs.Program.{Program, Ask, Look, Say}
@@ -57,7 +57,7 @@ contexts_not_aside : (related : Bool) (m : List ℕ) (r : Result ContextSet Body
 contexts_not_aside related m (Err fault) is = none_aside is
 contexts_not_aside related m (Ok set) is =
     let r : Req = req.Create (units_in (bytes_at (number_at 2 108 m) (number_at 2 110 m) m)) (number_at 4 88 m) (number_at 4 96 m) (number_at 4 100 m) (number_at 4 104 m) (number_at 4 92 m)
-    (option_map wanted_lease set.lease) set.durable in
+    (asked_lease (slice_index m 67) set.lease) set.durable in
     unless_not_aside (is_some set.reclaim) (share_request related r) (share_not_aside related r) is
 
 create_not_aside : (related : Bool) (m : List ℕ) → create_asked related m ≡ Some WireRequest.Aside → ⊥

@@ -8,7 +8,7 @@ use Rattle.fs_types.specs.declared.call.Call.{Call}
 use Rattle.share_spec.specs.declared.connection.Owed.{Owed}
 use Rattle.share_spec.specs.declared.share.Share.{Share}
 use Rattle.smb_link.specs.Program.{Program}
-use Rattle.smb_link.specs.Calls.{program_of}
+use Rattle.smb_link.specs.Calls.{is_there, program_of}
 use Rattle.fs_plain.specs.Replay.{Run, Running, Announced, Replay}
 use Rattle.fs_plain.specs.Answered.{odd_unless}
 use Rattle.fs_plain.specs.Differences.{is_right_begin, after_begin, is_right_for, after_for, announced_for}
@@ -58,16 +58,17 @@ lane_same : (coming : List Owed) (lane : ℕ) (items : List Item) → list_any (
 lane_same coming lane [] = refl
 lane_same coming lane (i ∷ items) = ap (λ (t : Bool). i.lane == lane || t) (lane_same coming lane items)
 
--- a call begins whose number is above all before it and whose lane is free
+-- a call that is there begins, whose number is above all before it and whose lane is free
 pub begin_related : (run : Run) (s : Share) (r : Replay) (v : View) (number lane : ℕ) (call : Call) → Related s r v
-    → list_all (λ n. nat_lt n number) v.begun ≡ true → list_any (λ (i : Item). i.lane == lane) v.items ≡ false
+    → is_there call ≡ true → list_all (λ n. nat_lt n number) v.begun ≡ true → list_any (λ (i : Item). i.lane == lane) v.items ≡ false
     → AllByRecursion (λ (i : Item). (number == i.number) ≡ false) v.items
-    → (odd_unless (is_right_begin r number lane) ≡ None)
+    → (odd_unless (is_right_begin r number lane call) ≡ None)
     × Related s (after_begin run r number lane call) (with_item (new_item number lane call (program_of run.options run.seed call)) v)
-begin_related run s r v number lane call old above free apart =
+begin_related run s r v number lane call old there above free apart =
     let coming : List Owed = old.paid ++ s.owed in
     let item : Item = new_item number lane call (program_of run.options run.seed call) in (
-      ap (λ (l : List ℕ). odd_unless (list_all (λ n. nat_lt n number) l && not (list_any (λ (c : Running). c.lane == lane) r.running))) old.begun
+      ap (λ (t : Bool). odd_unless (t && (list_all (λ n. nat_lt n number) r.begun && not (list_any (λ (c : Running). c.lane == lane) r.running)))) there
+          ∙ ap (λ (l : List ℕ). odd_unless (list_all (λ n. nat_lt n number) l && not (list_any (λ (c : Running). c.lane == lane) r.running))) old.begun
           ∙ ap (λ (t : Bool). odd_unless (t && not (list_any (λ (c : Running). c.lane == lane) r.running))) above
           ∙ ap (λ (l : List Running). odd_unless (not (list_any (λ (c : Running). c.lane == lane) l))) old.running
           ∙ ap (λ (t : Bool). odd_unless (not t)) (lane_same coming lane v.items ∙ free),

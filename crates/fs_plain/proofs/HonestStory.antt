@@ -27,7 +27,6 @@ use Rattle.fs_plain.specs.Replay.{Run}
 use Rattle.fs_plain.specs.Answered.{odd}
 use Rattle.fs_plain.specs.Differences.{difference}
 use Rattle.fs_plain.specs.CleanEnd.{EndsClean}
-use Rattle.fs_plain.specs.Prompt.{IsPrompt}
 use Rattle.fs_plain.specs.Thrift.{IsThrifty}
 use Rattle.fs_plain.proofs.Frames.{create_frame, interim_frame, opened_frame, both_frame, told_frame}
 
@@ -135,10 +134,6 @@ it_is_not_clean_before clean = false≢true (clean refl).opens
 it_is_thrifty : IsThrifty run 1000 false (take 6 story)
 unfolding components wire_request reply_in is_interim_of head_of head_at number_at first_of frames_in rest_in step_of parts_of read_of contexts_of set_of path.components path.after_part fault_of spelling
 it_is_thrifty = (refl, (refl, (refl, (refl, (refl, (refl, nothing))))))
-
-it_is_prompt : IsPrompt run 1000 false (take 8 story)
-unfolding components wire_request reply_in is_interim_of head_of head_at number_at first_of frames_in rest_in step_of parts_of read_of contexts_of set_of path.components path.after_part fault_of spelling
-it_is_prompt = (λ m. refl, (λ m. refl, (λ m. refl, (λ m. refl, (λ m. refl, (λ m. refl, (λ m. refl, (λ m. refl, nothing))))))))
 
 -- and an honest share tells it
 it_is_honest : IsHonest 1000 false story

@@ -12,7 +12,7 @@ use Rattle.smb_link.specs.declared.event.Event.TheVariants as event
 use Rattle.smb_link.specs.declared.mark.Mark.TheVariants as mark
 use Rattle.smb_link.specs.Story.{story_with, Gains}
 use Rattle.smb_link.specs.Program.{Say}
-use Rattle.smb_link.specs.Calls.{program_of}
+use Rattle.smb_link.specs.Calls.{is_there, program_of}
 use Rattle.smb_link.proofs.CameLaws.{story_with-twice}
 use Rattle.fs_plain.specs.World.{happens, messages_in, messages_got}
 use Rattle.fs_plain.specs.Honest.{MayHappen}
@@ -77,15 +77,15 @@ leads_event options seed v w e old new gains step = record {
   };
 }
 
--- a call begins
+-- a call that is there begins
 pub leads_begin : (options : Options) (seed : List ℕ) (v : View) (number lane : ℕ) (call : Call) (old new : Option (List Event))
     → Gains (event.Marked (mark.Begin number lane call) ∷ []) old new
-    → list_all (λ n. nat_lt n number) v.begun ≡ true → list_any (λ (i : Item). i.lane == lane) v.items ≡ false
+    → is_there call ≡ true → list_all (λ n. nat_lt n number) v.begun ≡ true → list_any (λ (i : Item). i.lane == lane) v.items ≡ false
     → AllByRecursion (λ (i : Item). (number == i.number) ≡ false) v.items
     → Leads options seed v (with_item (new_item number lane call (program_of options seed call)) v) old new
-leads_begin options seed v number lane call old new gains above free apart =
+leads_begin options seed v number lane call old new gains there above free apart =
     leads_event options seed v (with_item (new_item number lane call (program_of options seed call)) v) (event.Marked (mark.Begin number lane call)) old new gains
-    (λ status s r related may. begin_related (run_of options seed status) s r v number lane call related above free apart)
+    (λ status s r related may. begin_related (run_of options seed status) s r v number lane call related there above free apart)
 
 -- a frame is announced
 pub leads_for : (options : Options) (seed : List ℕ) (v : View) (a : Announced) (old new : Option (List Event))

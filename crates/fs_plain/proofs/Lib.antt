@@ -1,5 +1,6 @@
 mod Frames
 mod HonestStory
+mod MendedStories
 mod BrokenStories
 pub mod PlainTree
 pub mod Steps

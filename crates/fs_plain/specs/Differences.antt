@@ -20,7 +20,7 @@ use Rattle.smb_link.specs.declared.mark.Mark.{Mark}
 use Rattle.smb_link.specs.declared.mark.Mark.TheVariants as mark
 use Rattle.smb_link.specs.Locals.{begun}
 use Rattle.smb_link.specs.Program.{Known}
-use Rattle.smb_link.specs.Calls.{program_of}
+use Rattle.smb_link.specs.Calls.{is_there, program_of}
 use Rattle.fs_plain.specs.World.{mid_of, messages_of, messages_got, happens}
 use Rattle.fs_plain.specs.Honest.{start}
 use Rattle.fs_plain.specs.Same.{same_reply, answer_of_reply}
@@ -28,9 +28,10 @@ use Rattle.fs_plain.specs.Replay.{Run, Running, Announced, Owner, Replay, plain_
 use Rattle.fs_plain.specs.Taken.{after_taken, is_right_taken}
 use Rattle.fs_plain.specs.Answered.{Difference, odd_unless, judge_answer, after_answer}
 
--- a call begins: its number is above all before it, and its lane is free
-abbrev pub is_right_begin : Replay → ℕ → ℕ → Bool
-is_right_begin r number lane = list_all (λ n. nat_lt n number) r.begun && not (list_any (λ (c : Running). c.lane == lane) r.running)
+-- a call begins: it is there, its number is above all before it, and its lane is free
+abbrev pub is_right_begin : Replay → ℕ → ℕ → Call → Bool
+is_right_begin r number lane call =
+    is_there call && (list_all (λ n. nat_lt n number) r.begun && not (list_any (λ (c : Running). c.lane == lane) r.running))
 
 abbrev pub after_begin : Run → Replay → ℕ → ℕ → Call → Replay
 after_begin run r number lane call = record r {
@@ -167,7 +168,7 @@ replay_step run s r (event.Break key state) = r
 replay_step run s r (event.Dropped key) = after_ends s (event.Dropped key) r
 
 abbrev pub judge_mark : Run → Replay → Mark → Option Difference
-judge_mark run r (mark.Begin number lane call) = odd_unless (is_right_begin r number lane)
+judge_mark run r (mark.Begin number lane call) = odd_unless (is_right_begin r number lane call)
 judge_mark run r (mark.For number first count) = odd_unless (is_right_for r number)
 judge_mark run r (mark.Answer number a) = judge_answer run r number a
 judge_mark run r (mark.Now time) = None

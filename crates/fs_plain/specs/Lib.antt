@@ -10,10 +10,15 @@ pub mod Taken
 pub mod Answered
 pub mod Differences
 pub mod CleanEnd
-pub mod Prompt
 pub mod Thrift
 pub mod View
 pub mod Tidy
 pub mod Related
 pub mod Sends
 pub mod Moves
+pub mod Told
+pub mod Paired
+pub mod PlainSide
+pub mod PlainTaken
+pub mod PlainAnswered
+pub mod Divergence

@@ -137,6 +137,9 @@ begins_in (e ∷ events) = begins_in events
 abbrev pub no_facts : ServerFacts
 no_facts = record { capabilities = 0; max_transact = 0; max_read = 0; max_write = 0 }
 
+abbrev pub nothing_known : Known
+nothing_known = record { locals = no_locals; facts = no_facts; hidden = 0; restarted = None }
+
 -- before the first event
 abbrev pub at_first : ℕ → Bool → List Event → Replay
 at_first room fold story = record {
@@ -147,7 +150,7 @@ at_first room fold story = record {
   begun = [];
   announced = None;
   owners = [];
-  known = record { locals = no_locals; facts = no_facts };
+  known = nothing_known;
   now = 0;
   to_begin = begins_in story;
 }

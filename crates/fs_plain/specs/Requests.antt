@@ -1,5 +1,5 @@
 -- What a message that the client sent asks for.
-use Rattle.std.specs.Prelude.{ℕ, ◌+◌, ◌*◌, ◌%◌, ◌==◌, Bool, false, ◌&&◌, ◌||◌, nat_le, if◌then◌else◌, List, length, slice_index, Option, Some, None, option_map, is_some, bit_and, Result, Ok, Err}
+use Rattle.std.specs.Prelude.{ℕ, ◌+◌, ◌*◌, ◌%◌, ◌==◌, Bool, false, ◌&&◌, ◌||◌, nat_le, if◌then◌else◌, List, length, slice_index, Option, Some, None, is_some, bit_and, Result, Ok, Err}
 use Rattle.smb_base.specs.declared.names.Key.{Key}
 use Rattle.smb_base.specs.declared.names.Fid.{Fid}
 use Rattle.smb_le.specs.Numbers.{number_at}
@@ -34,13 +34,19 @@ fid_at place message = record { persistent = number_at 8 place message; volatile
 abbrev pub wanted_lease : Key × ℕ → Key × ℕ
 wanted_lease lease = (lease.0, bit_and lease.1 7)
 
--- CREATE (MS-SMB2 2.2.13) with these contexts: access at 88, attributes at 92, share at 96, disposition at 100, options at 104, and
--- the name, whose place stands at 108 and whose length at 110. A reclaim is another request.
+-- the lease that is asked for: the one that the contexts want, where the oplock level asks for a lease (0xFF, MS-SMB2 3.3.5.9.8); at
+-- any other level the context says nothing
+abbrev pub asked_lease : ℕ → Option (Key × ℕ) → Option (Key × ℕ)
+asked_lease level None = None
+asked_lease level (Some lease) = if level == 0xFF then Some (wanted_lease lease) else None
+
+-- CREATE (MS-SMB2 2.2.13) with these contexts: the oplock level at 67, access at 88, attributes at 92, share at 96, disposition at 100,
+-- options at 104, and the name, whose place stands at 108 and whose length at 110. A reclaim is another request.
 abbrev pub create_with : Bool → List ℕ → Result ContextSet BodyFault → Option WireRequest
 create_with related message (Err fault) = None
 create_with related message (Ok set) = if is_some set.reclaim then None else share_request related (req.Create
     (units_in (bytes_at (number_at 2 108 message) (number_at 2 110 message) message)) (number_at 4 88 message) (number_at 4 96 message)
-    (number_at 4 100 message) (number_at 4 104 message) (number_at 4 92 message) (option_map wanted_lease set.lease) set.durable)
+    (number_at 4 100 message) (number_at 4 104 message) (number_at 4 92 message) (asked_lease (slice_index message 67) set.lease) set.durable)
 
 -- a CREATE has one of the dispositions 0 to 5 and a name of whole units, and its name and its contexts lie in the message
 abbrev pub is_create : List ℕ → Bool

@@ -91,9 +91,11 @@ abbrev pub ended_open : Option Open → Replay → ℕ
 ended_open None r = 0
 ended_open (Some o) r = standing r.plain.opens (plain_of r.pairs o.number)
 
-abbrev pub plain_open_ended : Share → Replay → Req → ℕ
-plain_open_ended s r (req.Close fid) = ended_open (open_of s.opens us fid) r
-plain_open_ended s r other = 0
+-- a Close that is related to a refused CREATE ends nothing on the real share, so it ends nothing on the plain one
+abbrev pub plain_open_ended : Share → Replay → Bool → Req → ℕ
+plain_open_ended s r true request = 0
+plain_open_ended s r false (req.Close fid) = ended_open (open_of s.opens us fid) r
+plain_open_ended s r false other = 0
 
 -- such a Close is right where no call runs and none is to begin
 abbrev pub is_over : Replay → Bool
@@ -110,11 +112,11 @@ is_right_unowned r ended = ended == 0 || is_over r
 
 -- the replay once a request to the share is taken, which has this reply there
 abbrev pub after_request : Share → Replay → Option Owner → Bool → Req → Rep → Replay
-after_request s r None refused request real = after_unowned r (plain_open_ended s r request)
+after_request s r None refused request real = after_unowned r (plain_open_ended s r refused request)
 after_request s r (Some o) refused request real = after_owned r (running_with o.number r.running) o.known refused real
 
 abbrev pub is_right_request : Share → Replay → Option Owner → Bool → Req → Bool
-is_right_request s r None refused request = is_right_unowned r (plain_open_ended s r request)
+is_right_request s r None refused request = is_right_unowned r (plain_open_ended s r refused request)
 is_right_request s r (Some o) refused request = is_right_owned (running_with o.number r.running) o.known refused request
 
 -- the replay once what a waiting message asks for is taken

@@ -213,7 +213,7 @@ begins : (seed : List ℕ) (asked : ScriptCall) (last : ℕ) (begun : List ℕ) 
     → Gains (event.Marked (mark.Begin asked.number asked.lane (call.Stat asked.path)) ∷ []) old new
     → Leads run_options seed (resting [] begun before) (resting (started asked ∷ []) (asked.number ∷ begun) before) old new
 begins seed asked last begun before old new up less gains =
-    leads_begin run_options seed (resting [] begun before) asked.number asked.lane (call.Stat asked.path) old new gains (below last asked.number begun up less) refl tt
+    leads_begin run_options seed (resting [] begun before) asked.number asked.lane (call.Stat asked.path) old new gains refl (below last asked.number begun up less) refl tt
 
 started_goes : (asked : ScriptCall) (begun : List ℕ) → MayGoOn asked.number (asked.number ∷ begun) (started asked)
 started_goes asked begun = record {

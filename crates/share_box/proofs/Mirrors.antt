@@ -1,6 +1,6 @@
 -- The share that a story tells of stays the one that a box has, event by event.
 use Rattle.std.proofs.Common.{◌≡◌, ◌∙◌, ℕ, ◌==◌, ◌&&◌, Bool, true, false, not, if◌then◌else◌, List, [], ◌∷◌, ◌++◌, take, drop, map, refl, sym, ap, subst, append_assoc, Result, Ok, Err, Option, Some, None, rules}
-use Rattle.std.specs.Prelude.{is_none, is_some, option_map, filter}
+use Rattle.std.specs.Prelude.{is_none, is_some, slice_index, filter}
 use Rattle.std.specs.List.{AllByRecursion}
 use Rattle.std.proofs.lemmas.List.{take-append-drop}
 use Rattle.smb_base.specs.declared.names.Mid.{Mid}
@@ -34,7 +34,7 @@ use Rattle.share_spec.specs.Sent.{sent_but, behind_create}
 use Rattle.share_spec.specs.Cut.{ends_with, after_cut, after_join}
 use Rattle.smb_link.specs.declared.event.Event.TheVariants as event
 use Rattle.fs_plain.specs.Wire.{has_body, bytes_at, units_in}
-use Rattle.fs_plain.specs.Requests.{WireRequest, fid_at, wanted_lease, share_request, create_with, is_create, create_asked, close_asked, is_query, query_asked, is_aside, by_command, asked_with, wire_request}
+use Rattle.fs_plain.specs.Requests.{WireRequest, fid_at, asked_lease, share_request, create_with, is_create, create_asked, close_asked, is_query, query_asked, is_aside, by_command, asked_with, wire_request}
 use Rattle.fs_plain.specs.World.{us, grant_in, waiting, messages_of, first_mid, requests_among, requests_in, after_sent, sent_with, is_first_of_frame, followed, is_creating, refusal_before, resolved, refused_before, unless_refused_before, came_to, after_create, choices_left, choice_now, after_done, after_aside, after_taking, after_took_of, act_of, after_got, happens}
 use Rattle.fs_plain.specs.Honest.{MayBeDone, MayBeTakenAs, MayTake, MayAct, MayGet, MayHappen}
 use Rattle.fs_plain.specs.Related.{bare}
@@ -188,7 +188,7 @@ built_request related r = built_given related r (is_built r) refl
 -- the CREATE that a message with these contexts is
 abbrev create_in : List ℕ → ContextSet → Req
 create_in message set = req.Create (units_in (bytes_at (number_at 2 108 message) (number_at 2 110 message) message)) (number_at 4 88 message)
-    (number_at 4 96 message) (number_at 4 100 message) (number_at 4 104 message) (number_at 4 92 message) (option_map wanted_lease set.lease) set.durable
+    (number_at 4 96 message) (number_at 4 100 message) (number_at 4 104 message) (number_at 4 92 message) (asked_lease (slice_index message 67) set.lease) set.durable
 
 built_create : (related : Bool) (message : List ℕ) (contexts : Result ContextSet BodyFault) → IsBuiltIn (create_with related message contexts)
 built_create related message (Err fault) = tt

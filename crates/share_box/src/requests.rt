@@ -1,11 +1,11 @@
 //! What a message asks for.
 
-ghost use Rattle.std.specs.Prelude.{◌≡◌, ◌<◌, ◌≤◌, ◌+◌, ◌*◌, ◌∷◌, ◌&&◌, [], nat_le, true, false, None, Some, IfOk, IfSome, MatchOption, option_map, if◌then◌else◌, length, drop};
+ghost use Rattle.std.specs.Prelude.{◌≡◌, ◌<◌, ◌≤◌, ◌+◌, ◌*◌, ◌∷◌, ◌&&◌, [], nat_le, true, false, not, is_none, None, Some, IfOk, IfSome, MatchOption, option_map, if◌then◌else◌, length, drop};
 ghost use Rattle.smb_le.specs.Numbers.{number_at};
 ghost use Rattle.smb_body_b.specs.Contexts.{read_of};
 ghost use Rattle.share_spec.specs.State.{has};
 ghost use Rattle.fs_plain.specs.Wire.{has_body, lies, units_in};
-ghost use Rattle.fs_plain.specs.Requests.{wire_request, is_aside, is_create, create_asked, close_asked, query_asked, by_command, WireRequest};
+ghost use Rattle.fs_plain.specs.Requests.{wire_request, is_aside, is_create, create_asked, close_asked, query_asked, by_command, asked_lease, WireRequest};
 ghost use Rattle.share_box.specs.Parsed.{wire_request_of, is_taken, IsCreateIn, is_plain, are_plain};
 
 use share_spec::Req;
@@ -30,6 +30,9 @@ const FILE: u8 = 1;
 
 /// FileAllInformation (MS-FSCC 2.4).
 const ALL: u8 = 18;
+
+/// The oplock level that asks for a lease (MS-SMB2 2.2.13).
+const LEASE: u8 = 0xFF;
 
 /// The flag of replies (MS-SMB2 2.2.1.2).
 const REPLY: u32 = 1;
@@ -156,7 +159,7 @@ fn asked_create(alloc: Global, related: bool, message: &[u8]) -> Result<Option<P
     let Some(create) = create_of(message) else {
         return Ok(None);
     };
-    if !are_plain(create.contexts) {
+    if !are_plain(create.oplock_level, create.contexts) {
         return Ok(None);
     }
     Ok(Some(ParsedRequest::Share(
@@ -174,21 +177,28 @@ fn asked_create(alloc: Global, related: bool, message: &[u8]) -> Result<Option<P
     )))
 }
 
-// Contexts that read, and that want neither a lease nor a durable open, new or old.
-fn are_plain(contexts: &[u8]) -> bool
-    ensures { result ≡ are_plain (read_of false contexts.now) }
+// Contexts that read, and that want neither a lease, at this oplock level, nor a durable open, new or old.
+fn are_plain(level: u8, contexts: &[u8]) -> bool
+    ensures { result ≡ are_plain level (read_of false contexts.now) }
 {
     match read_contexts(contexts, false) {
-        Ok(set) => is_plain(set),
+        Ok(set) => is_plain(level, set),
         Err(_) => false,
     }
 }
 
-// The contexts want neither a lease nor a durable open, new or old.
-fn is_plain(contexts: ContextSet) -> bool
-    ensures { result ≡ is_plain contexts }
+// The contexts want neither a lease, at this oplock level, nor a durable open, new or old.
+fn is_plain(level: u8, contexts: ContextSet) -> bool
+    ensures { result ≡ is_plain level contexts }
 {
-    contexts.lease.is_none() && !contexts.durable && contexts.reclaim.is_none()
+    !wants_lease(level, &contexts) && !contexts.durable && contexts.reclaim.is_none()
+}
+
+// The contexts want a lease, and the oplock level asks for one.
+fn wants_lease(level: u8, contexts: &ContextSet) -> bool
+    ensures { not result ≡ is_none (asked_lease level contexts.now.lease) }
+{
+    level == LEASE && contexts.lease.is_some()
 }
 
 // The first unit of UTF-16 that these bytes are, the low byte first, and the bytes after it.

@@ -1,5 +1,5 @@
 -- What the client knows by itself: its descriptors, the open files behind them, and which calls on each are under way.
-use Rattle.std.specs.Prelude.{ℕ, Bool, List, []}
+use Rattle.std.specs.Prelude.{ℕ, Bool, List, [], Option}
 use Rattle.fs_types.specs.declared.call.Call.{Call}
 use Rattle.fs_types.specs.declared.answer.Answer.{Answer}
 
@@ -9,10 +9,10 @@ pub record Range : Type 0 where
   pub size : ℕ
   pub exclusive : Bool
 
--- an open file: its path as it was opened, its flags, the shared offset, the ranges that it holds, whether it was lost with a
+-- an open file: its path as it was opened, or none where a call of this client hid it since, its flags, the shared offset, the ranges that it holds, whether it was lost with a
 -- connection, and the numbers of the calls on it that were begun and not answered, the oldest first
 pub record Description : Type 0 where
-  pub path : List ℕ
+  pub path : Option (List ℕ)
   pub flags : ℕ
   pub offset : ℕ
   pub ranges : List Range

@@ -1,5 +1,5 @@
 -- What a call asks of the share, one request after another, and what it answers in the end.
-use Rattle.std.specs.Prelude.{ℕ, ◌==◌, Bool, List, [], ◌∷◌, Option, Some, None, Result, Ok, Err, if◌then◌else◌, nat_lt, length, bit_and}
+use Rattle.std.specs.Prelude.{ℕ, zero, suc, ◌==◌, Bool, List, [], ◌∷◌, Option, Some, None, Result, Ok, Err, if◌then◌else◌, nat_lt, length, bit_and}
 use Rattle.smb_base.specs.declared.names.Status.{Status}
 use Rattle.smb_base.specs.ErrorTable.{error_number}
 use Rattle.smb_names.specs.declared.map.NameMap.{NameMap}
@@ -32,10 +32,23 @@ pub record ServerFacts : Type 0 where
   pub max_read : ℕ
   pub max_write : ℕ
 
--- what a call looks at beside its replies, when it makes a request or answers
+-- how a call that a cut broke off goes on: it answers that it was broken off, or it starts once more
+pub data GoesOn : Type 0 where
+  BrokenOff : GoesOn
+  Again : GoesOn
+
+-- a call that a cut broke off, and which of the opens that it made before it closes first, counted from 0
+pub record Restart : Type 0 where
+  pub goes : GoesOn
+  pub closes : Option ℕ
+
+-- what a call looks at beside its replies, when it makes a request or answers: the descriptors and open files, what the server said of
+-- itself, the number that the next hidden name takes, and whether a cut broke the call off
 pub record Known : Type 0 where
   pub locals : Locals
   pub facts : ServerFacts
+  pub hidden : ℕ
+  pub restarted : Option Restart
 
 -- what is left of a call: a request, and what comes after its reply; a look at what is known; or the answer. A reply is seen without
 -- its file id, lease and durable grant.
@@ -56,10 +69,23 @@ replied known (Program.Ask wish rest) reply = rest reply
 replied known (Program.Look rest) reply = replied known (rest known) reply
 replied known (Program.Say answer) reply = Program.Say answer
 
--- what is left once its first requests have these replies: the next request, or the answer
-abbrev pub next : Known → Program → List Rep → Program
-next known program [] = settled known program
-next known program (reply ∷ replies) = next known (replied known program reply) replies
+-- what is left once its first requests have these replies, each with what was known when its request was announced: the next request
+-- or the answer, by what is known now
+abbrev pub next : Known → Program → List (Known × Rep) → Program
+next now program [] = settled now program
+next now program (told ∷ replies) = next now (replied told.0 program told.1) replies
+
+-- more frames than that end a run, so no call asks for more. A call that asks until the share has no more (a listing) goes by this
+-- number, which nothing unfolds: a program stays a finite tree, and everything about programs is said along it.
+unfoldable pub most_frames : ℕ
+most_frames = 16777216
+
+-- asks the same request until its reply says that there is no more, so often at most; then it goes on with these replies, the last of
+-- them with it, the newest first
+abbrev pub ask_until : ℕ → (Rep → Bool) → Wish → List Rep → (List Rep → Program) → Program
+ask_until zero is_last wish replies rest = rest replies
+ask_until (suc n) is_last wish replies rest = Program.Ask wish (λ reply.
+  if is_last reply then rest (reply ∷ replies) else ask_until n is_last wish (reply ∷ replies) rest)
 
 -- the answer for a status of the server: the error number that the table has for it; one that the table has none for is told
 abbrev pub of_number : ℕ → Status → Answer

@@ -1,0 +1,93 @@
+-- Stories, each of which a looser reading of the rules would judge wrongly.
+use Rattle.std.proofs.Common.{◌≡◌, ℕ, true, false, [], ◌∷◌, ◌++◌, refl, None, Some, List, Option, Bool}
+use Rattle.std.specs.Prelude.{codes, take}
+use Rattle.smb_base.specs.declared.names.Mid.{Mid}
+use Rattle.smb_base.specs.declared.names.Key.{Key}
+use Rattle.fs_types.specs.declared.answer.Answer.{Answer}
+use Rattle.fs_types.specs.declared.answer.Answer.TheVariants as answer
+use Rattle.fs_types.specs.declared.call.Call.TheVariants as call
+use Rattle.share_spec.specs.declared.request.Req.{Req}
+use Rattle.share_spec.specs.declared.request.Req.TheVariants as req
+use Rattle.share_spec.specs.declared.request.Rep.{Rep}
+use Rattle.share_spec.specs.declared.share.Share.{Share}
+use Rattle.share_spec.specs.Reply.{fid_of, of_status}
+use Rattle.share_spec.specs.Names.{components}
+use Rattle.smb_link.specs.declared.event.Event.{Event}
+use Rattle.smb_link.specs.declared.event.Event.TheVariants as event
+use Rattle.smb_link.specs.declared.mark.Mark.TheVariants as mark
+use Rattle.smb_le.specs.Numbers.{number_at}
+use Rattle.smb_head.specs.Header.{head_of, head_at}
+use Rattle.smb_head.specs.Stream.{first_of, frames_in, rest_in}
+use Rattle.smb_chain.specs.Parts.{step_of, parts_of}
+use Rattle.smb_body_b.specs.Contexts.{read_of, contexts_of, set_of}
+use Rattle.smb_names.specs.Path as path
+use Rattle.smb_names.specs.WireName.{fault_of, spelling}
+use Rattle.fs_plain.specs.Requests.{wire_request, asked_lease, wanted_lease}
+use Rattle.fs_plain.specs.Replies.{reply_in, is_interim_of}
+use Rattle.fs_plain.specs.Replay.{Run, Replay}
+use Rattle.fs_plain.specs.Taken.{after_request, is_right_request}
+use Rattle.fs_plain.specs.Answered.{odd}
+use Rattle.fs_plain.specs.Differences.{difference}
+use Rattle.fs_plain.specs.Divergence.{divergence}
+use Rattle.fs_plain.proofs.Frames.{create_frame, both_frame, told_frame}
+use Rattle.fs_plain.proofs.HonestStory.{mid, run, story, options}
+
+-- the story of a whole stat diverges nowhere
+no_divergence : divergence run 1000 false story ≡ None
+unfolding components wire_request reply_in is_interim_of head_of head_at number_at first_of frames_in rest_in step_of parts_of read_of contexts_of set_of path.components path.after_part fault_of spelling
+no_divergence = refl
+
+-- a run that ended by what the server sent
+abbrev pub broken : Run
+broken = record run { status = 5 }
+
+abbrev pub begins : Event
+begins = event.Marked (mark.Begin 1 0 (call.Stat (codes "/")))
+
+abbrev pub breaks_off : Event
+breaks_off = event.Marked (mark.Answer 1 (answer.Err (record { 0 = 71 }) None))
+
+-- EPROTO where the run ends is passed over
+broken_off : divergence broken 1000 false (event.Joined ∷ begins ∷ breaks_off ∷ []) ≡ None
+unfolding components path.components path.after_part fault_of spelling
+broken_off = refl
+
+-- and where the client goes on behind it, it is none of the plain client's answers
+goes_on : divergence broken 1000 false (event.Joined ∷ begins ∷ breaks_off ∷ event.Marked mark.End ∷ []) ≡ Some (3, odd)
+unfolding components path.components path.after_part fault_of spelling
+goes_on = refl
+
+-- a request without a mark that is related to a refused CREATE does nothing on the plain share, whatever it asks
+refused_does_nothing : (s : Share) (r : Replay) (request : Req) (real : Rep) → after_request s r None true request real ≡ r
+refused_does_nothing s r request real = refl
+
+-- a call that is not there may not begin
+not_there : difference run 1000 false (event.Joined ∷ event.Marked (mark.Begin 1 0 (call.Lstat (codes "/"))) ∷ []) ≡ Some (2, odd)
+not_there = refl
+
+nor_on_the_plain_side : divergence run 1000 false (event.Joined ∷ event.Marked (mark.Begin 1 0 (call.Lstat (codes "/"))) ∷ []) ≡ Some (2, odd)
+nor_on_the_plain_side = refl
+
+-- a lease is asked for at the oplock level 0xFF alone
+no_lease_at_level_0 : (lease : Key × ℕ) → asked_lease 0 (Some lease) ≡ None
+no_lease_at_level_0 lease = refl
+
+a_lease_at_level_255 : (lease : Key × ℕ) → asked_lease 255 (Some lease) ≡ Some (wanted_lease lease)
+a_lease_at_level_255 lease = refl
+
+-- the id of a call's request is used again by a request without a mark: it is nobody's, and the call is where it was
+abbrev pub used_again : List Event
+used_again = take 6 story ++ event.Took (mid 0) ∷ event.Sent create_frame ∷ event.Took (mid 0) ∷ []
+
+nobodys : divergence run 1000 false used_again ≡ None
+unfolding components wire_request reply_in is_interim_of head_of head_at number_at first_of frames_in rest_in step_of parts_of read_of contexts_of set_of path.components path.after_part fault_of spelling
+nobodys = refl
+
+-- two marks speak of one frame, each of one of its requests
+abbrev pub marked_twice : List Event
+marked_twice =
+    take 11 story ++ event.Marked (mark.For 1 (mid 1) 1) ∷ event.Marked (mark.For 1 (mid 2) 1) ∷ event.Sent both_frame ∷ event.Took (mid 1) ∷ event.Took (mid 2) ∷ []
+
+both_speak : divergence run 1000 false marked_twice ≡ None
+unfolding components wire_request reply_in is_interim_of head_of head_at number_at first_of frames_in rest_in step_of parts_of read_of contexts_of set_of path.components path.after_part fault_of spelling
+both_speak = refl
