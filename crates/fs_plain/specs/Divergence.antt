@@ -1,5 +1,5 @@
 -- The plain side of a story, event by event, and the first place where the story diverges from it.
-use Rattle.std.specs.Prelude.{ℕ, ◌+◌, ◌-◌, ◌==◌, Bool, true, false, not, ◌&&◌, ◌||◌, nat_lt, nat_le, if◌then◌else◌, List, [], ◌∷◌, ◌++◌, length, map, Option, Some, None, get_or, option_map, Result}
+use Rattle.std.specs.Prelude.{ℕ, ◌+◌, ◌-◌, ◌==◌, Bool, true, false, not, ◌&&◌, ◌||◌, nat_lt, nat_le, if◌then◌else◌, List, [], ◌∷◌, ◌++◌, length, map, Option, Some, None, unwrap_or, option_map, Result}
 use Rattle.std.specs.List.{list_any, list_all}
 use Rattle.smb_base.specs.declared.names.Fid.{Fid}
 use Rattle.smb_base.specs.declared.names.Mid.{Mid}
@@ -72,7 +72,7 @@ holds_announced mids announced = list_all (λ (a : Announcement). nat_le a.count
 
 -- the number of the plain open that stands for a real one; 0, which no open has, where none does
 abbrev pub plain_of_real : List Pair → ℕ → ℕ
-plain_of_real pairs real = get_or 0 (option_map (λ (pair : Pair). pair.plain) (pair_of_real real pairs))
+plain_of_real pairs real = unwrap_or (option_map (λ (pair : Pair). pair.plain) (pair_of_real real pairs)) 0
 
 -- an event that ends opens of the real share ends those that stand for them, each as by a Close
 abbrev pub all_ended_with : List Pair → List Open → Share → Share

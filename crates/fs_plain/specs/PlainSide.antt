@@ -1,6 +1,6 @@
 -- A client without caches at a share of its own, which does what the story's client was asked to do. Beside what it keeps stands what the
 -- client's own events tell. The core's proofs still go by Replay; they are to go by this.
-use Rattle.std.specs.Prelude.{ℕ, zero, suc, get_or, ◌+◌, ◌-◌, ◌==◌, Bool, true, false, not, ◌&&◌, ◌||◌, nat_lt, nat_le, if◌then◌else◌, List, [], ◌∷◌, ◌++◌, length, map, filter, Option, Some, None, is_some}
+use Rattle.std.specs.Prelude.{ℕ, zero, suc, unwrap_or, ◌+◌, ◌-◌, ◌==◌, Bool, true, false, not, ◌&&◌, ◌||◌, nat_lt, nat_le, if◌then◌else◌, List, [], ◌∷◌, ◌++◌, length, map, filter, Option, Some, None, is_some}
 use Rattle.std.specs.List.{list_any, list_all}
 use Rattle.smb_base.specs.declared.names.Fid.{Fid}
 use Rattle.smb_base.specs.declared.names.Mid.{Mid}
@@ -130,7 +130,7 @@ with_call new (c ∷ cs) = if c.number == new.number then new ∷ cs else c ∷ 
 
 -- its file id there; that of no open, 0, where it is none, so that the share refuses a request of it as FILE_CLOSED
 abbrev pub plain_file_id : PlainCall → List (ℕ × ℕ) → File → Fid
-plain_file_id c described file = fid_of (get_or 0 (open_of_file c described file))
+plain_file_id c described file = fid_of (unwrap_or (open_of_file c described file) 0)
 
 -- a request of a call, done on the plain share
 abbrev pub wish_done_on : PlainSide → PlainCall → Wish → Rep × Share

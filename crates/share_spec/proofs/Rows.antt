@@ -15,7 +15,7 @@ use Rattle.share_spec.specs.declared.share.Share.{Share}
 use Rattle.share_spec.specs.declared.connection.LastCreate.{LastCreate}
 use Rattle.share_spec.specs.declared.connection.LastCreate.TheVariants as last
 use Rattle.share_spec.specs.declared.connection.Sent.{Sent}
-use Rattle.share_spec.specs.Sent.{after_create, sent_but}
+use Rattle.share_spec.specs.Sent.{behind_create, sent_but}
 use Rattle.share_spec.specs.Names.{components}
 use Rattle.share_spec.specs.State.{fresh_share}
 use Rattle.share_spec.specs.Reply.{of_status, fid_of, opened_reply}
@@ -387,7 +387,7 @@ message mid frame came =
 abbrev sent : List Sent
 sent = message 1 1 last.Nothing ∷ message 2 1 last.Nothing ∷ message 3 3 last.Nothing ∷ []
 
-told_to_its_frame : map (after_create (record { 0 = 1 }) (last.Refused (record { 0 = 7 }))) sent
+told_to_its_frame : map (behind_create (record { 0 = 1 }) (last.Refused (record { 0 = 7 }))) sent
     ≡ message 1 1 (last.Refused (record { 0 = 7 })) ∷ message 2 1 (last.Refused (record { 0 = 7 })) ∷ message 3 3 last.Nothing ∷ []
 told_to_its_frame = refl
 
