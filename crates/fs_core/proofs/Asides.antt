@@ -32,7 +32,7 @@ negotiate_is guid m is = grind arith
 
 -- NEGOTIATE
 pub negotiate_aside : (guid body : List ℕ) → body ≡ spelling 36 (U16 1 ∷ Any16 1 ∷ Any16 0 ∷ Any32 0 ∷ Block guid ∷ Any64 0 ∷ Follows ∷ []) (0x10 ∷ 0x02 ∷ [])
-    → IsReadAgain 36 (U16 1 ∷ Any16 1 ∷ Any16 0 ∷ Any32 0 ∷ Block guid ∷ Any64 0 ∷ Follows ∷ []) (0x10 ∷ 0x02 ∷ []) → IsAsideBody 0 body
+    → IsReadAgain 36 (U16 1 ∷ Any16 1 ∷ Any16 0 ∷ Any32 0 ∷ Block guid ∷ Any64 0 ∷ Follows ∷ []) (0x10 ∷ 0x02 ∷ []) → IsAsideBody NEGOTIATE body
 negotiate_aside guid body is again place fits =
     let fields : List Field = U16 1 ∷ Any16 1 ∷ Any16 0 ∷ Any32 0 ∷ Block guid ∷ Any64 0 ∷ Follows ∷ [] in
     let m : List ℕ = message_of place NEGOTIATE (spelling 36 fields (0x10 ∷ 0x02 ∷ [])) in
@@ -45,7 +45,7 @@ session_is previous token m is = grind arith
 
 -- SESSION_SETUP
 pub session_aside : (previous : ℕ) (token body : List ℕ) → body ≡ spelling 25 (Any8 0 ∷ Any8 1 ∷ Any32 0 ∷ Any32 0 ∷ Offset16 ∷ U16 (length token) ∷ U64 previous ∷ []) token
-    → IsReadAgain 25 (Any8 0 ∷ Any8 1 ∷ Any32 0 ∷ Any32 0 ∷ Offset16 ∷ U16 (length token) ∷ U64 previous ∷ []) token → IsAsideBody 1 body
+    → IsReadAgain 25 (Any8 0 ∷ Any8 1 ∷ Any32 0 ∷ Any32 0 ∷ Offset16 ∷ U16 (length token) ∷ U64 previous ∷ []) token → IsAsideBody SESSION_SETUP body
 session_aside previous token body is again place fits =
     let fields : List Field = Any8 0 ∷ Any8 1 ∷ Any32 0 ∷ Any32 0 ∷ Offset16 ∷ U16 (length token) ∷ U64 previous ∷ [] in
     let m : List ℕ = message_of place SESSION_SETUP (spelling 25 fields token) in
@@ -58,7 +58,7 @@ tree_is path m is = grind arith
 
 -- TREE_CONNECT
 pub tree_aside : (path body : List ℕ) → body ≡ spelling 9 (Any16 0 ∷ Offset16 ∷ U16 (length path) ∷ []) path
-    → IsReadAgain 9 (Any16 0 ∷ Offset16 ∷ U16 (length path) ∷ []) path → IsAsideBody 3 body
+    → IsReadAgain 9 (Any16 0 ∷ Offset16 ∷ U16 (length path) ∷ []) path → IsAsideBody TREE_CONNECT body
 tree_aside path body is again place fits =
     let fields : List Field = Any16 0 ∷ Offset16 ∷ U16 (length path) ∷ [] in
     let m : List ℕ = message_of place TREE_CONNECT (spelling 9 fields path) in
@@ -70,7 +70,7 @@ disconnect_is : (m : List ℕ) → IsBody 4 (Any16 0 ∷ []) [] m → is_aside 4
 disconnect_is m is = grind arith
 
 -- TREE_DISCONNECT
-pub disconnect_aside : (body : List ℕ) → body ≡ spelling 4 (Any16 0 ∷ []) [] → IsReadAgain 4 (Any16 0 ∷ []) [] → IsAsideBody 4 body
+pub disconnect_aside : (body : List ℕ) → body ≡ spelling 4 (Any16 0 ∷ []) [] → IsReadAgain 4 (Any16 0 ∷ []) [] → IsAsideBody TREE_DISCONNECT body
 disconnect_aside body is again place fits =
     let m : List ℕ = message_of place TREE_DISCONNECT (spelling 4 (Any16 0 ∷ []) []) in
     ap (λ (b : List ℕ). wire_request (message_of place TREE_DISCONNECT b)) is
@@ -81,7 +81,7 @@ logoff_is : (m : List ℕ) → IsBody 4 (Any16 0 ∷ []) [] m → is_aside 2 m �
 logoff_is m is = grind arith
 
 -- LOGOFF
-pub logoff_aside : (body : List ℕ) → body ≡ spelling 4 (Any16 0 ∷ []) [] → IsReadAgain 4 (Any16 0 ∷ []) [] → IsAsideBody 2 body
+pub logoff_aside : (body : List ℕ) → body ≡ spelling 4 (Any16 0 ∷ []) [] → IsReadAgain 4 (Any16 0 ∷ []) [] → IsAsideBody LOGOFF body
 logoff_aside body is again place fits =
     let m : List ℕ = message_of place LOGOFF (spelling 4 (Any16 0 ∷ []) []) in
     ap (λ (b : List ℕ). wire_request (message_of place LOGOFF b)) is

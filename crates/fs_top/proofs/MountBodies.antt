@@ -2,6 +2,7 @@
 use Rattle.std.proofs.Common.{rules, arith, ◌≡◌, ◌∙◌, inl, inr, refl, sym, ap, subst, ℕ, ◌+◌, ◌<◌, ◌≤◌, ◌⊎◌, ◌==◌, ◌&&◌, ◌||◌, Bool, true, false, if◌then◌else◌, List, length, Result, Ok, Err}
 use Rattle.std.specs.Prelude.{nat_le, MatchBool}
 use Rattle.smb_le.specs.Numbers.{number_at}
+use Rattle.smb_head.specs.declared.command.TheConstants.{NEGOTIATE, SESSION_SETUP, TREE_CONNECT}
 use Rattle.smb_head.specs.declared.head.Head.{Head}
 use Rattle.smb_head.specs.declared.head.HeadFault.{HeadFault}
 use Rattle.smb_head.specs.declared.head.Route.{Route}
@@ -153,7 +154,7 @@ negotiate_head : (k : kept.Start) (part : List ℕ) (why : MountFault) (b : Body
 negotiate_head k part why b (Err f) body ends is = body
 negotiate_head k part why b (Ok head) body ends is = negotiate_by k part why b (head.status.0 == 0) (head.status.0 == 0xC0000016) body ends is
 
-pub negotiate_sound : (k : kept.Start) (part : List ℕ) (why : MountFault) (b : BodyFault) → HasBody 0 part → NegotiateEnds k (head_of part) part (Err why) → why ≡ fault.Malformed b → ⊥
+pub negotiate_sound : (k : kept.Start) (part : List ℕ) (why : MountFault) (b : BodyFault) → HasBody NEGOTIATE part → NegotiateEnds k (head_of part) part (Err why) → why ≡ fault.Malformed b → ⊥
 negotiate_sound k part why b body ends is = negotiate_head k part why b (head_of part) body ends is
 
 -- the first SESSION_SETUP
@@ -171,7 +172,7 @@ setup_head : (k : kept.Greeted) (part : List ℕ) (why : MountFault) (b : BodyFa
 setup_head k part why b (Err f) body ends is = body
 setup_head k part why b (Ok head) body ends is = setup_by k head.session head.status part why b (head.status.0 == 0) (head.status.0 == 0xC0000016) body ends is
 
-pub setup_sound : (k : kept.Greeted) (part : List ℕ) (why : MountFault) (b : BodyFault) → HasBody 1 part → SetUpEnds k (head_of part) part (Err why) → why ≡ fault.Malformed b → ⊥
+pub setup_sound : (k : kept.Greeted) (part : List ℕ) (why : MountFault) (b : BodyFault) → HasBody SESSION_SETUP part → SetUpEnds k (head_of part) part (Err why) → why ≡ fault.Malformed b → ⊥
 setup_sound k part why b body ends is = setup_head k part why b (head_of part) body ends is
 
 -- the second one
@@ -188,7 +189,7 @@ session_head : (k : kept.Challenge) (part : List ℕ) (why : MountFault) (b : Bo
 session_head k part why b (Err f) body ends is = body
 session_head k part why b (Ok head) body ends is = session_by k head.status part why b (head.status.0 == 0) (head.status.0 == 0xC0000016) body ends is
 
-pub session_sound : (k : kept.Challenge) (part : List ℕ) (why : MountFault) (b : BodyFault) → HasBody 1 part → SessionEnds k (head_of part) part (Err why) → why ≡ fault.Malformed b → ⊥
+pub session_sound : (k : kept.Challenge) (part : List ℕ) (why : MountFault) (b : BodyFault) → HasBody SESSION_SETUP part → SessionEnds k (head_of part) part (Err why) → why ≡ fault.Malformed b → ⊥
 session_sound k part why b body ends is = session_head k part why b (head_of part) body ends is
 
 -- TREE_CONNECT
@@ -204,7 +205,7 @@ tree_head : (k : kept.Session) (part : List ℕ) (why : MountFault) (b : BodyFau
 tree_head k part why b (Err f) body ends is = body
 tree_head k part why b (Ok head) body ends is = tree_by k head.route head.status part why b (head.status.0 == 0) (head.status.0 == 0xC0000016) body ends is
 
-pub tree_sound : (k : kept.Session) (part : List ℕ) (why : MountFault) (b : BodyFault) → HasBody 3 part → TreeEnds k (head_of part) part (Err why) → why ≡ fault.Malformed b → ⊥
+pub tree_sound : (k : kept.Session) (part : List ℕ) (why : MountFault) (b : BodyFault) → HasBody TREE_CONNECT part → TreeEnds k (head_of part) part (Err why) → why ≡ fault.Malformed b → ⊥
 tree_sound k part why b body ends is = tree_head k part why b (head_of part) body ends is
 
 -- the end of a refusal that is no malformed body is not foul

@@ -2,6 +2,7 @@
 use Rattle.std.proofs.Common.{rules, get_or, ◌≡◌, refl, sym, ap, subst, ℕ, ◌+◌, Bool, false, List, [], ◌∷◌, Option, Result, Ok, Err}
 use Rattle.std.specs.Prelude.{IsOk}
 use Rattle.std.specs.List.{AllByRecursion}
+use Rattle.smb_head.specs.declared.command.TheConstants.{LOGOFF, TREE_DISCONNECT}
 use Rattle.smb_head.specs.declared.head.Head.{Head}
 use Rattle.smb_head.specs.declared.head.HeadFault.{HeadFault}
 use Rattle.smb_head.specs.declared.request.Request.{Request}
@@ -142,5 +143,5 @@ leave_asks facts requests d e is written =
     subst (λ (l : List Request). IsAsideBody (get_or l 0 d).command (get_or l 0 d).body × IsAsideBody (get_or l 1 e).command (get_or l 1 e).body) (sym is)
     (by (subst (AllByRecursion (IsWritten 4 no_fields [])) is written))
   where
-    by : AllByRecursion (IsWritten 4 no_fields []) (tree_disconnect facts ∷ logoff facts ∷ []) → IsAsideBody 4 (tree_disconnect facts).body × IsAsideBody 2 (logoff facts).body
+    by : AllByRecursion (IsWritten 4 no_fields []) (tree_disconnect facts ∷ logoff facts ∷ []) → IsAsideBody TREE_DISCONNECT (tree_disconnect facts).body × IsAsideBody LOGOFF (logoff facts).body
     by all = (disconnect_asks facts (tree_disconnect facts) refl all.0, logoff_asks facts (logoff facts) refl all.1.0)

@@ -113,7 +113,7 @@ reply_told (Ok head) mid request message reply bare is =
     if_some (answers mid request head && not (is_interim head)) (reply_by_status head.status.0 (command_of request) message) reply is in
     let same : head.command ≡ command_of request = is_number head.command (command_of request) (and_right _ _ (and_left _ _ found.0)) in
     bare_if (head.command == CREATE) (head.status.0 == 0) (choice_of (opened_in message)) (λ c s.
-    let body : reply_by_status 0 5 message ≡ Some reply =
+    let body : reply_by_status 0 CREATE message ≡ Some reply =
     subst (λ (n : ℕ). reply_by_status 0 n message ≡ Some reply) (sym same ∙ is_number head.command 5 c)
     (subst (λ (n : ℕ). reply_by_status n (command_of request) message ≡ Some reply) (is_number head.status.0 0 s) found.1) in
     subst IsBare (sym (choice_told (opened_in message) reply body)) bare)

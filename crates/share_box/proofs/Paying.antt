@@ -68,21 +68,21 @@ refused_says command status refusal again head =
     refused_by (status == 0) (status == 0x80000005) (command == QUERY_INFO) (is_error m) (reply_of 0 (body_in command m)) (Some (of_status status)) refusal is
 
 -- a CREATE that was done
-opened_says : (number action size attributes : ℕ) → Says 5 (opened_reply number action size attributes)
+opened_says : (number action size attributes : ℕ) → Says CREATE (opened_reply number action size attributes)
 unfolding IsBodyAgain body_of
 opened_says number action size attributes again head =
     ap (reply_of 0) (opened_is (fid_of number) action size attributes (message head (said.Share (opened_reply number action size attributes)))
     (stands 89 (opened (fid_of number) action size attributes) [] (header head) again (length-header head)))
 
 -- a Query that was done
-told_says : (s : Share) (node entry : ℕ) → Says 16 (info_reply s node entry)
+told_says : (s : Share) (node entry : ℕ) → Says QUERY_INFO (info_reply s node entry)
 unfolding IsBodyAgain body_of
 told_says s node entry again head =
     ap (reply_of 0) (info_is _ _ _ _ _ _ (message head (said.Share (info_reply s node entry))) again
     (stands 9 (buffer 100) _ (header head) again.body (length-header head)))
 
 -- a Close that was done
-closed_says : Says 6 (of_status 0)
+closed_says : Says CLOSE (of_status 0)
 unfolding IsBodyAgain body_of
 closed_says again head =
     ap (reply_of 0) (closed_is (message head (said.Share (of_status 0))) (stands 60 closed [] (header head) again (length-header head)))
@@ -90,16 +90,16 @@ closed_says again head =
 created : (command : ℕ) (reply : Rep) → command ≡ CREATE → IsRefused reply ⊎ IsOpened reply → Says command reply
 created command reply by (inl r) = subst (Says command) (sym r.is) (refused_says command r.status r.refusal)
 created command reply by (inr o) =
-    subst (λ (c : ℕ). Says c reply) (sym by) (subst (Says 5) (sym o.is) (opened_says o.number o.action o.size o.attributes))
+    subst (λ (c : ℕ). Says c reply) (sym by) (subst (Says CREATE) (sym o.is) (opened_says o.number o.action o.size o.attributes))
 
-told_says : (command : ℕ) (reply : Rep) → command ≡ QUERY_INFO → IsRefused reply ⊎ IsTold reply → Says command reply
-told_says command reply by (inl r) = subst (Says command) (sym r.is) (refused_says command r.status r.refusal)
-told_says command reply by (inr o) =
-    subst (λ (c : ℕ). Says c reply) (sym by) (subst (Says 16) (sym o.is) (told_says o.share o.node o.entry))
+query_says : (command : ℕ) (reply : Rep) → command ≡ QUERY_INFO → IsRefused reply ⊎ IsTold reply → Says command reply
+query_says command reply by (inl r) = subst (Says command) (sym r.is) (refused_says command r.status r.refusal)
+query_says command reply by (inr o) =
+    subst (λ (c : ℕ). Says c reply) (sym by) (subst (Says QUERY_INFO) (sym o.is) (told_says o.share o.node o.entry))
 
 ended : (command : ℕ) (reply : Rep) → command ≡ CLOSE → IsRefused reply ⊎ (reply ≡ of_status 0) → Says command reply
 ended command reply by (inl r) = subst (Says command) (sym r.is) (refused_says command r.status r.refusal)
-ended command reply by (inr is) = subst (λ (c : ℕ). Says c reply) (sym by) (subst (Says 6) (sym is) closed_says)
+ended command reply by (inr is) = subst (λ (c : ℕ). Says c reply) (sym by) (subst (Says CLOSE) (sym is) closed_says)
 
 -- what the share replies to a request of a command
 steps : (command : ℕ) (s : Share) (r : Req) → IsCreate command r ⊎ (IsClose command r ⊎ IsQuery command r) → Says command (step_of None s us r).0
@@ -114,7 +114,7 @@ steps command s r (inl c) =
 steps command s r (inr (inl c)) =
     subst (λ (q : Req). Says command (step_of None s us q).0) (sym c.is) (ended command _ c.by (close_shape s us c.fid))
 steps command s r (inr (inr c)) =
-    subst (λ (q : Req). Says command (step_of None s us q).0) (sym c.is) (told_says command _ c.by (query_shape s us c.fid))
+    subst (λ (q : Req). Says command (step_of None s us q).0) (sym c.is) (query_says command _ c.by (query_shape s us c.fid))
 
 -- what is said to a request of the connection itself, by its command
 abbrev chosen : Bool → Bool → Bool → Bool → Said

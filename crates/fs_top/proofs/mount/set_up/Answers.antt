@@ -1,5 +1,6 @@
 use Rattle.fs_core.specs.Course.{tally_of}
 use Rattle.fs_top.proofs.Mounting.{session_asks}
+use Rattle.smb_head.specs.declared.command.TheConstants.{SESSION_SETUP}
 use Rattle.smb_head.specs.declared.request.Request.{Request}
 use Rattle.fs_core.specs.Judged.{HasBody}
 use Rattle.fs_top.proofs.Steps.{rests_leaves, rests_not}
@@ -26,7 +27,7 @@ returns-in-Ok-reply-clause-leads g c = c.in-Ok-aside_reply.ensures.leads (sessio
 
 pub returns-clause-leads : goal.returns-clause-leads
 returns-clause-leads g c =
-    let body : HasBody 1 c.in-Ok-aside_reply.part = subst (λ (n : ℕ). HasBody n c.in-Ok-aside_reply.part) (ap (λ (r : Request). r.command) c.in-Ok.ensures.value) c.in-Ok-aside_reply.ensures.body in
+    let body : HasBody SESSION_SETUP c.in-Ok-aside_reply.part = subst (λ (n : ℕ). HasBody n c.in-Ok-aside_reply.part) (ap (λ (r : Request). r.command) c.in-Ok.ensures.value) c.in-Ok-aside_reply.ensures.body in
     let ends : SetUpEnds c.args.state (head_of c.in-Ok-aside_reply.part) c.in-Ok-aside_reply.part (Err c.in-Err-reply.fault) =
     subst (λ (p : List ℕ). SetUpEnds c.args.state (head_of p) p (Err c.in-Err-reply.fault)) c.as_slice.ensures c.in-Err-reply.ensures in
     rests_leaves c.end_of.result c.args.client.now.wire.next c.aside_reply.new.client.wire.next (g.L.Link.story c.args.link.now) (g.L.Link.story c.aside_reply.new.link)
