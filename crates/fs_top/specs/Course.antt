@@ -41,10 +41,10 @@ is_of_script mark.End = true
 is_of_script m = false
 
 -- what a run says of its script
-abbrev pub said : List Event → List Mark
-said [] = []
-said (event.Marked m ∷ events) = if is_of_script m then m ∷ said events else said events
-said (e ∷ events) = said events
+abbrev pub script_marks : List Event → List Mark
+script_marks [] = []
+script_marks (event.Marked m ∷ events) = if is_of_script m then m ∷ script_marks events else script_marks events
+script_marks (e ∷ events) = script_marks events
 
 -- the calls that begin and are answered
 abbrev pub is_of_call : Mark → Bool
@@ -69,12 +69,12 @@ pub record Stretch (before after : Tally) (marks : List Mark) (events : List Eve
   pub exchanges : List (List ℕ × List ℕ)
   pub one_by_one : OneByOne exchanges events
   pub counted : after ≡ tallied before events
-  pub says : said events ≡ marks
+  pub says : script_marks events ≡ marks
 
 -- a stretch that stops, with its cause
 pub record Stopped (before after : Tally) (marks : List Mark) (why : Stop) (events : List Event) : Type 0 where
   pub stops : StopsAt patience before after why events
-  pub says : said events ≡ marks
+  pub says : script_marks events ≡ marks
 
 -- the marks of an exchange: of its script no more is said than that it is at its end
 pub record NoCall (ended ended' : Bool) (marks : List Mark) : Type 0 where
@@ -107,11 +107,11 @@ pub record Broken (before after : Tally) (marks : List Mark) (e : End) (events :
   pub are : events ≡ upto ++ behind
   pub marked : list_all is_mark behind ≡ true
   pub cause : CauseOf before after e upto
-  pub says : said events ≡ marks
+  pub says : script_marks events ≡ marks
 
 -- the end of a run in its calls: a cause at the link; or the sink refuses the line of an answer, up to which requests went in turn
 abbrev pub BreaksOff : Tally → Tally → List Mark → End → List Event → Type 0
-BreaksOff before after marks end.Sink events = IsInTurn events × (said events ≡ marks)
+BreaksOff before after marks end.Sink events = IsInTurn events × (script_marks events ≡ marks)
 BreaksOff before after marks e events = Broken before after marks e events
 
 -- requests of a mount and their replies, as they are taken for this result, or as they fail by this end
@@ -256,7 +256,7 @@ refusals (suc n) = event.NotJoined ∷ refusals n
 abbrev pub JoinsSo : Bool → Result (Unit {0}) End → List Event → Type 0
 JoinsSo stood (Ok x) events = (n : ℕ) × (events ≡ opening stood ++ refusals n ++ event.Joined ∷ []) × (n < 4)
 JoinsSo stood (Err (end.Connects n)) events = (n ≡ 4) × (events ≡ opening stood ++ refusals 4)
-JoinsSo stood (Err e) events = (e ≡ end.Memory) × (said events ≡ [])
+JoinsSo stood (Err e) events = (e ≡ end.Memory) × (script_marks events ≡ [])
 
 -- a line's call begins, or not for want of memory
 abbrev pub BeginsSo : {E : Type 0} → ScriptCall → Result (Unit {0}) E → List Event → Type 0
