@@ -125,7 +125,7 @@ step request items f owed' part messages others awaits belongs (owed.Aside m q �
     by_header request f part it.0 look.Final it.1 h (looked_final it.0 part it.3 (subst (λ (c : ℕ). has_reply_body it.0.status.0 c part ≡ true) (sym h.command) fits)) in
     subst (λ (l : Look). IsFine (judged_as l part (Some request) others)) (sym looks)
     (fine_answered part (others None) (over paid settled.1 (subst (λ (l : List Flight). Sound l (paid ++ owed')) (one_gone m f one.0) sound.1)))
-step request items f owed' part messages others awaits belongs (owed.Notice key state ∷ paid) settled sound waits over = absurd sound
+step request items f owed' part messages others awaits belongs (owed.Notice key state wanted ∷ paid) settled sound waits over = absurd sound
 
 -- a message that pays what is owed has a header
 has_header : (f : Flight) (owed' : List Owed) (part : List ℕ) (messages : List (List ℕ)) (paid : List Owed) → Settles paid (part ∷ messages) → Sound (f ∷ []) (paid ++ owed')
@@ -134,7 +134,7 @@ has_header f owed' part messages [] settled sound = absurd settled
 has_header f owed' part messages (owed.Interim m q ∷ paid) settled sound = let it = interim_is m q part settled.0 in (it.0, it.1)
 has_header f owed' part messages (owed.Reply m q reply ∷ paid) settled sound = let it = reply_is m q part reply settled.0 in (it.0, it.1)
 has_header f owed' part messages (owed.Aside m q ∷ paid) settled sound = let it = aside_is m q part settled.0 in (it.0, it.1)
-has_header f owed' part messages (owed.Notice key state ∷ paid) settled sound = absurd sound
+has_header f owed' part messages (owed.Notice key state wanted ∷ paid) settled sound = absurd sound
 
 -- the first message is all of the bytes, or begins them
 only_is : (bytes part : List ℕ) → step_of bytes ≡ Only part → part ≡ bytes

@@ -97,7 +97,7 @@ none_behind [] owed' (m ∷ ms) sound settled = absurd settled
 none_behind (owed.Interim m q ∷ paid) owed' behind sound settled = absurd sound.0
 none_behind (owed.Reply m q reply ∷ paid) owed' behind sound settled = absurd sound.0.1
 none_behind (owed.Aside m q ∷ paid) owed' behind sound settled = absurd sound.0
-none_behind (owed.Notice key state ∷ paid) owed' behind sound settled = absurd sound
+none_behind (owed.Notice key state wanted ∷ paid) owed' behind sound settled = absurd sound
 
 pub one_gone : (m : Mid) (f : Flight) → (f.mid.0 == m.0) ≡ true → flights_but m (f ∷ []) ≡ []
 one_gone m f is = ap (λ (t : Bool). if not t then f ∷ [] else []) is

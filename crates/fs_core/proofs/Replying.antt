@@ -67,7 +67,7 @@ pass_one s r items begun f p ps low passed old (owed.Aside m q ∷ paid) is sett
     let it = aside_is m q p settled.0 in
     let one = the_flight (IsFor false q) m f (λ none. none) sound.0 in
     absurd (not_passed f m q p it.0 low one.0 it.1 it.2 it.3 passed)
-pass_one s r items begun f p ps low passed old (owed.Notice key state ∷ paid) is settled sound = absurd sound
+pass_one s r items begun f p ps low passed old (owed.Notice key state wanted ∷ paid) is settled sound = absurd sound
 
 -- all of them
 pass_all : (s : Share) (r : Replay) (items : List Item) (begun : List ℕ) (f : Flight) (passed ps : List (List ℕ)) → f.mid.0 < 2 ^ 64 - 1 → AllByRecursion IsPassed passed
@@ -98,7 +98,7 @@ aside_by request s r items begun f part behind own final old (owed.Aside m q ∷
     let none : behind ≡ [] = none_behind paid s.owed behind (subst (λ (l : List Flight). Sound l (paid ++ s.owed)) gone sound.1) settled.1 in
     subst (λ (l : List (List ℕ)). Related s r (record (resting items begun (f.mid.0 + 1)) { hand = l })) none
     (subst (λ (l : List Flight). Related s r (record (resting items begun (f.mid.0 + 1)) { hand = behind; flights = l })) gone left)
-aside_by request s r items begun f part behind own final old (owed.Notice key state ∷ paid) is settled sound = absurd sound
+aside_by request s r items begun f part behind own final old (owed.Notice key state wanted ∷ paid) is settled sound = absurd sound
 
 pub aside_lands : (request : Awaited) (items : List Item) (begun : List ℕ) (f : Flight) (part : List ℕ) (behind : List (List ℕ)) → f.owner ≡ None → IsFinal request part
     → (s : Share) (r : Replay) → Related s r (with_hand (part ∷ behind) (awaiting items begun f)) → Related s r (resting items begun (f.mid.0 + 1))
@@ -134,7 +134,7 @@ call_by request s r items begun f n part behind reply own command final says old
 call_by request s r items begun f n part behind reply own command final says old (owed.Aside m q ∷ paid) is settled sound =
     let one = the_flight (IsFor false q) m f (λ none. none) sound.0 in
     absurd (no _ (ap is_of_call own) one.1.1)
-call_by request s r items begun f n part behind reply own command final says old (owed.Notice key state ∷ paid) is settled sound = absurd sound
+call_by request s r items begun f n part behind reply own command final says old (owed.Notice key state wanted ∷ paid) is settled sound = absurd sound
 
 pub call_lands : (request : Awaited) (items : List Item) (begun : List ℕ) (f : Flight) (n : ℕ) (part : List ℕ) (behind : List (List ℕ)) (reply : Rep)
     → f.owner ≡ Some n → command_of f.message ≡ request.command → IsFinal request part → Says request.command part reply
@@ -158,7 +158,7 @@ says_by request f n part fault behind owed' own command final nothing (owed.Repl
 says_by request f n part fault behind owed' own command final nothing (owed.Aside m q ∷ paid) settled sound =
     let one = the_flight (IsFor false q) m f (λ none. none) sound.0 in
     no _ (ap is_of_call own) one.1.1
-says_by request f n part fault behind owed' own command final nothing (owed.Notice key state ∷ paid) settled sound = sound
+says_by request f n part fault behind owed' own command final nothing (owed.Notice key state wanted ∷ paid) settled sound = sound
 
 pub says_something : (request : Awaited) (items : List Item) (begun : List ℕ) (f : Flight) (n : ℕ) (part : List ℕ) (fault : kinds.ReplyFault) (behind : List (List ℕ)) → f.owner ≡ Some n
     → command_of f.message ≡ request.command → IsFinal request part → SaysNothing request.command part fault

@@ -194,7 +194,7 @@ none_coming [] sound = refl
 none_coming (owed.Interim m q ∷ coming) sound = absurd sound.0
 none_coming (owed.Reply m q reply ∷ coming) sound = absurd sound.0.1
 none_coming (owed.Aside m q ∷ coming) sound = absurd sound.0
-none_coming (owed.Notice key state ∷ coming) sound = absurd sound
+none_coming (owed.Notice key state wanted ∷ coming) sound = absurd sound
 
 -- a connection is made where none stood and nothing is under way
 pub join_related : (s : Share) (r : Replay) (v : View) → Related s r v → v.flights ≡ [] → v.hand ≡ [] → v.held ≡ [] → v.announced ≡ None

@@ -106,7 +106,7 @@ left_none mid fs [] none = none
 left_none mid fs (owed.Interim m q ∷ coming) none = left_none mid fs coming none
 left_none mid fs (owed.Reply m q reply ∷ coming) none = left_none mid (flights_but m fs) coming (but_still_none mid m fs none)
 left_none mid fs (owed.Aside m q ∷ coming) none = left_none mid (flights_but m fs) coming (but_still_none mid m fs none)
-left_none mid fs (owed.Notice key state ∷ coming) none = left_none mid fs coming none
+left_none mid fs (owed.Notice key state wanted ∷ coming) none = left_none mid fs coming none
 
 none_is_some : {X : Type 0} (x : X) (found : Option X) → found ≡ None → found ≡ Some x → ⊥
 none_is_some x found none some = search rules
@@ -123,7 +123,7 @@ left_in mid fs [] f found = found
 left_in mid fs (owed.Interim m q ∷ coming) f found = left_in mid fs coming f found
 left_in mid fs (owed.Reply m q reply ∷ coming) f found = before_but mid m fs f (left_in mid (flights_but m fs) coming f found)
 left_in mid fs (owed.Aside m q ∷ coming) f found = before_but mid m fs f (left_in mid (flights_but m fs) coming f found)
-left_in mid fs (owed.Notice key state ∷ coming) f found = left_in mid fs coming f found
+left_in mid fs (owed.Notice key state wanted ∷ coming) f found = left_in mid fs coming f found
 
 -- no reply is coming for what is left
 pub no_reply : (mid : Mid) (fs : List Flight) (coming : List Owed) (f : Flight) → flight_with mid (left fs coming) ≡ Some f → reply_for mid coming ≡ None
@@ -135,63 +135,63 @@ no_reply mid fs (owed.Reply m q reply ∷ coming) f found = elim (eqb_tells m.0 
   | inr told ↦ ap (λ (t : Bool). if t then Some reply else reply_for mid coming) told.0 ∙ no_reply mid (flights_but m fs) coming f found
 ]
 no_reply mid fs (owed.Aside m q ∷ coming) f found = no_reply mid (flights_but m fs) coming f found
-no_reply mid fs (owed.Notice key state ∷ coming) f found = no_reply mid fs coming f found
+no_reply mid fs (owed.Notice key state wanted ∷ coming) f found = no_reply mid fs coming f found
 
 pub left_interim : (m : Mid) (q : List ℕ) (fs : List Flight) (coming : List Owed) → left fs (coming ++ owed.Interim m q ∷ []) ≡ left fs coming
 left_interim m q fs [] = refl
 left_interim m q fs (owed.Interim m' q' ∷ coming) = left_interim m q fs coming
 left_interim m q fs (owed.Reply m' q' reply' ∷ coming) = left_interim m q (flights_but m' fs) coming
 left_interim m q fs (owed.Aside m' q' ∷ coming) = left_interim m q (flights_but m' fs) coming
-left_interim m q fs (owed.Notice key state ∷ coming) = left_interim m q fs coming
+left_interim m q fs (owed.Notice key state wanted ∷ coming) = left_interim m q fs coming
 
 pub sound_interim : (m : Mid) (q : List ℕ) (fs : List Flight) (coming : List Owed) → Sound fs coming → IsOf q (flight_with m (left fs coming)) → Sound fs (coming ++ owed.Interim m q ∷ [])
 sound_interim m q fs [] sound new = (new, record {})
 sound_interim m q fs (owed.Interim m' q' ∷ coming) sound new = (sound.0, sound_interim m q fs coming sound.1 new)
 sound_interim m q fs (owed.Reply m' q' reply' ∷ coming) sound new = (sound.0, sound_interim m q (flights_but m' fs) coming sound.1 new)
 sound_interim m q fs (owed.Aside m' q' ∷ coming) sound new = (sound.0, sound_interim m q (flights_but m' fs) coming sound.1 new)
-sound_interim m q fs (owed.Notice key state ∷ coming) sound new = absurd sound
+sound_interim m q fs (owed.Notice key state wanted ∷ coming) sound new = absurd sound
 
 pub left_reply : (m : Mid) (q : List ℕ) (reply : Rep) (fs : List Flight) (coming : List Owed) → left fs (coming ++ owed.Reply m q reply ∷ []) ≡ flights_but m (left fs coming)
 left_reply m q reply fs [] = refl
 left_reply m q reply fs (owed.Interim m' q' ∷ coming) = left_reply m q reply fs coming
 left_reply m q reply fs (owed.Reply m' q' reply' ∷ coming) = left_reply m q reply (flights_but m' fs) coming
 left_reply m q reply fs (owed.Aside m' q' ∷ coming) = left_reply m q reply (flights_but m' fs) coming
-left_reply m q reply fs (owed.Notice key state ∷ coming) = left_reply m q reply fs coming
+left_reply m q reply fs (owed.Notice key state wanted ∷ coming) = left_reply m q reply fs coming
 
 pub sound_reply : (m : Mid) (q : List ℕ) (reply : Rep) (fs : List Flight) (coming : List Owed) → Sound fs coming → Names reply × IsFor true q (flight_with m (left fs coming)) → Sound fs (coming ++ owed.Reply m q reply ∷ [])
 sound_reply m q reply fs [] sound new = (new, record {})
 sound_reply m q reply fs (owed.Interim m' q' ∷ coming) sound new = (sound.0, sound_reply m q reply fs coming sound.1 new)
 sound_reply m q reply fs (owed.Reply m' q' reply' ∷ coming) sound new = (sound.0, sound_reply m q reply (flights_but m' fs) coming sound.1 new)
 sound_reply m q reply fs (owed.Aside m' q' ∷ coming) sound new = (sound.0, sound_reply m q reply (flights_but m' fs) coming sound.1 new)
-sound_reply m q reply fs (owed.Notice key state ∷ coming) sound new = absurd sound
+sound_reply m q reply fs (owed.Notice key state wanted ∷ coming) sound new = absurd sound
 
 pub left_aside : (m : Mid) (q : List ℕ) (fs : List Flight) (coming : List Owed) → left fs (coming ++ owed.Aside m q ∷ []) ≡ flights_but m (left fs coming)
 left_aside m q fs [] = refl
 left_aside m q fs (owed.Interim m' q' ∷ coming) = left_aside m q fs coming
 left_aside m q fs (owed.Reply m' q' reply' ∷ coming) = left_aside m q (flights_but m' fs) coming
 left_aside m q fs (owed.Aside m' q' ∷ coming) = left_aside m q (flights_but m' fs) coming
-left_aside m q fs (owed.Notice key state ∷ coming) = left_aside m q fs coming
+left_aside m q fs (owed.Notice key state wanted ∷ coming) = left_aside m q fs coming
 
 pub sound_aside : (m : Mid) (q : List ℕ) (fs : List Flight) (coming : List Owed) → Sound fs coming → IsFor false q (flight_with m (left fs coming)) → Sound fs (coming ++ owed.Aside m q ∷ [])
 sound_aside m q fs [] sound new = (new, record {})
 sound_aside m q fs (owed.Interim m' q' ∷ coming) sound new = (sound.0, sound_aside m q fs coming sound.1 new)
 sound_aside m q fs (owed.Reply m' q' reply' ∷ coming) sound new = (sound.0, sound_aside m q (flights_but m' fs) coming sound.1 new)
 sound_aside m q fs (owed.Aside m' q' ∷ coming) sound new = (sound.0, sound_aside m q (flights_but m' fs) coming sound.1 new)
-sound_aside m q fs (owed.Notice key state ∷ coming) sound new = absurd sound
+sound_aside m q fs (owed.Notice key state wanted ∷ coming) sound new = absurd sound
 
 pub replies_interim : (m : Mid) (q : List ℕ) (mid : Mid) (coming : List Owed) → reply_for mid (coming ++ owed.Interim m q ∷ []) ≡ reply_for mid coming
 replies_interim m q mid [] = refl
 replies_interim m q mid (owed.Interim m' q' ∷ coming) = replies_interim m q mid coming
 replies_interim m q mid (owed.Reply m' q' reply' ∷ coming) = ap (λ (o : Option Rep). if m'.0 == mid.0 then Some reply' else o) (replies_interim m q mid coming)
 replies_interim m q mid (owed.Aside m' q' ∷ coming) = replies_interim m q mid coming
-replies_interim m q mid (owed.Notice key state ∷ coming) = replies_interim m q mid coming
+replies_interim m q mid (owed.Notice key state wanted ∷ coming) = replies_interim m q mid coming
 
 pub replies_aside : (m : Mid) (q : List ℕ) (mid : Mid) (coming : List Owed) → reply_for mid (coming ++ owed.Aside m q ∷ []) ≡ reply_for mid coming
 replies_aside m q mid [] = refl
 replies_aside m q mid (owed.Interim m' q' ∷ coming) = replies_aside m q mid coming
 replies_aside m q mid (owed.Reply m' q' reply' ∷ coming) = ap (λ (o : Option Rep). if m'.0 == mid.0 then Some reply' else o) (replies_aside m q mid coming)
 replies_aside m q mid (owed.Aside m' q' ∷ coming) = replies_aside m q mid coming
-replies_aside m q mid (owed.Notice key state ∷ coming) = replies_aside m q mid coming
+replies_aside m q mid (owed.Notice key state wanted ∷ coming) = replies_aside m q mid coming
 
 -- a reply at the end is found where none was
 pub reply_there : (m : Mid) (q : List ℕ) (reply : Rep) (coming : List Owed) → reply_for m coming ≡ None → reply_for m (coming ++ owed.Reply m q reply ∷ []) ≡ Some reply
@@ -203,7 +203,7 @@ reply_there m q reply (owed.Reply m' q' reply' ∷ coming) none = elim (eqb_tell
       ∙ reply_there m q reply coming (sym (ap (λ (t : Bool). if t then Some reply' else reply_for m coming) told.0) ∙ none)
 ]
 reply_there m q reply (owed.Aside m' q' ∷ coming) none = reply_there m q reply coming none
-reply_there m q reply (owed.Notice key state ∷ coming) none = reply_there m q reply coming none
+reply_there m q reply (owed.Notice key state wanted ∷ coming) none = reply_there m q reply coming none
 
 -- it is not that of another request
 pub reply_elsewhere : (m : Mid) (q : List ℕ) (reply : Rep) (mid : Mid) (coming : List Owed) → (m.0 == mid.0) ≡ false
@@ -212,4 +212,4 @@ reply_elsewhere m q reply mid [] apart = ap (λ (t : Bool). if t then Some reply
 reply_elsewhere m q reply mid (owed.Interim m' q' ∷ coming) apart = reply_elsewhere m q reply mid coming apart
 reply_elsewhere m q reply mid (owed.Reply m' q' reply' ∷ coming) apart = ap (λ (o : Option Rep). if m'.0 == mid.0 then Some reply' else o) (reply_elsewhere m q reply mid coming apart)
 reply_elsewhere m q reply mid (owed.Aside m' q' ∷ coming) apart = reply_elsewhere m q reply mid coming apart
-reply_elsewhere m q reply mid (owed.Notice key state ∷ coming) apart = reply_elsewhere m q reply mid coming apart
+reply_elsewhere m q reply mid (owed.Notice key state wanted ∷ coming) apart = reply_elsewhere m q reply mid coming apart

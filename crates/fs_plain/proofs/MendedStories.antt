@@ -1,8 +1,10 @@
 -- Stories, each of which a looser reading of the rules would judge wrongly.
 use Rattle.std.proofs.Common.{◌≡◌, ℕ, true, false, [], ◌∷◌, ◌++◌, refl, None, Some, List, Option, Bool}
 use Rattle.std.specs.Prelude.{codes, take}
+use Rattle.std.specs.Str.{chars}
 use Rattle.smb_base.specs.declared.names.Mid.{Mid}
 use Rattle.smb_base.specs.declared.names.Key.{Key}
+use Rattle.fs_types.specs.declared.names.Kind.TheVariants as kind
 use Rattle.fs_types.specs.declared.answer.Answer.{Answer}
 use Rattle.fs_types.specs.declared.answer.Answer.TheVariants as answer
 use Rattle.fs_types.specs.declared.call.Call.TheVariants as call
@@ -10,6 +12,7 @@ use Rattle.share_spec.specs.declared.request.Req.{Req}
 use Rattle.share_spec.specs.declared.request.Req.TheVariants as req
 use Rattle.share_spec.specs.declared.request.Rep.{Rep}
 use Rattle.share_spec.specs.declared.share.Share.{Share}
+use Rattle.share_spec.specs.State.{Making}
 use Rattle.share_spec.specs.Reply.{fid_of, of_status}
 use Rattle.share_spec.specs.Names.{components}
 use Rattle.smb_link.specs.declared.event.Event.{Event}
@@ -29,11 +32,14 @@ use Rattle.fs_plain.specs.Taken.{after_request, is_right_request}
 use Rattle.fs_plain.specs.Answered.{odd}
 use Rattle.fs_plain.specs.Differences.{difference}
 use Rattle.fs_plain.specs.Divergence.{divergence}
-use Rattle.fs_plain.proofs.Frames.{create_frame, both_frame, told_frame}
+use Rattle.fs_plain.proofs.Frames.{create_frame, both_frame, chain_frame, missing_chain_frame}
 use Rattle.fs_plain.proofs.HonestStory.{mid, run, story, options}
 
+abbrev pub made : Making
+made = record { room = 1000; fold = false }
+
 -- the story of a whole stat diverges nowhere
-no_divergence : divergence run 1000 false story ≡ None
+no_divergence : divergence run made story ≡ None
 unfolding components wire_request reply_in is_interim_of head_of head_at number_at first_of frames_in rest_in step_of parts_of read_of contexts_of set_of path.components path.after_part fault_of spelling
 no_divergence = refl
 
@@ -48,12 +54,12 @@ abbrev pub breaks_off : Event
 breaks_off = event.Marked (mark.Answer 1 (answer.Err (record { 0 = 71 }) None))
 
 -- EPROTO where the run ends is passed over
-broken_off : divergence broken 1000 false (event.Joined ∷ begins ∷ breaks_off ∷ []) ≡ None
+broken_off : divergence broken made (event.Joined ∷ begins ∷ breaks_off ∷ []) ≡ None
 unfolding components path.components path.after_part fault_of spelling
 broken_off = refl
 
 -- and where the client goes on behind it, it is none of the plain client's answers
-goes_on : divergence broken 1000 false (event.Joined ∷ begins ∷ breaks_off ∷ event.Marked mark.End ∷ []) ≡ Some (3, odd)
+goes_on : divergence broken made (event.Joined ∷ begins ∷ breaks_off ∷ event.Marked mark.End ∷ []) ≡ Some (3, odd)
 unfolding components path.components path.after_part fault_of spelling
 goes_on = refl
 
@@ -65,7 +71,7 @@ refused_does_nothing s r request real = refl
 not_there : difference run 1000 false (event.Joined ∷ event.Marked (mark.Begin 1 0 (call.Lstat (codes "/"))) ∷ []) ≡ Some (2, odd)
 not_there = refl
 
-nor_on_the_plain_side : divergence run 1000 false (event.Joined ∷ event.Marked (mark.Begin 1 0 (call.Lstat (codes "/"))) ∷ []) ≡ Some (2, odd)
+nor_on_the_plain_side : divergence run made (event.Joined ∷ event.Marked (mark.Begin 1 0 (call.Lstat (codes "/"))) ∷ []) ≡ Some (2, odd)
 nor_on_the_plain_side = refl
 
 -- a lease is asked for at the oplock level 0xFF alone
@@ -79,7 +85,7 @@ a_lease_at_level_255 lease = refl
 abbrev pub used_again : List Event
 used_again = take 6 story ++ event.Took (mid 0) ∷ event.Sent create_frame ∷ event.Took (mid 0) ∷ []
 
-nobodys : divergence run 1000 false used_again ≡ None
+nobodys : divergence run made used_again ≡ None
 unfolding components wire_request reply_in is_interim_of head_of head_at number_at first_of frames_in rest_in step_of parts_of read_of contexts_of set_of path.components path.after_part fault_of spelling
 nobodys = refl
 
@@ -88,6 +94,29 @@ abbrev pub marked_twice : List Event
 marked_twice =
     take 11 story ++ event.Marked (mark.For 1 (mid 1) 1) ∷ event.Marked (mark.For 1 (mid 2) 1) ∷ event.Sent both_frame ∷ event.Took (mid 1) ∷ event.Took (mid 2) ∷ []
 
-both_speak : divergence run 1000 false marked_twice ≡ None
+both_speak : divergence run made marked_twice ≡ None
 unfolding components wire_request reply_in is_interim_of head_of head_at number_at first_of frames_in rest_in step_of parts_of read_of contexts_of set_of path.components path.after_part fault_of spelling
 both_speak = refl
+
+-- a stat whose three requests go in one frame, under one mark: the two later ones are related to its CREATE
+abbrev pub chained : List ℕ → Answer → List Event
+chained frame a =
+    event.Joined ∷ begins ∷ event.Marked (mark.For 1 (mid 0) 3) ∷ event.Sent frame ∷ event.Took (mid 0) ∷ event.Took (mid 1) ∷ event.Took (mid 2)
+    ∷ event.Marked (mark.Answer 1 a) ∷ []
+
+in_one_frame : divergence run made (chained chain_frame (answer.Stat (record { kind = kind.Dir; size = 0; mode = 493; links = 1; number = 1 }))) ≡ None
+unfolding components wire_request reply_in is_interim_of head_of head_at number_at first_of frames_in rest_in step_of parts_of read_of contexts_of set_of path.components path.after_part fault_of spelling
+in_one_frame = refl
+
+-- where the CREATE is refused the two do nothing, and its refusal is the answer
+abbrev pub begins_missing : Event
+begins_missing = event.Marked (mark.Begin 1 0 (call.Stat (47 ∷ 98 ∷ [])))
+
+abbrev pub missing : List Event
+missing =
+    event.Joined ∷ begins_missing ∷ event.Marked (mark.For 1 (mid 0) 3) ∷ event.Sent missing_chain_frame ∷ event.Took (mid 0) ∷ event.Took (mid 1)
+    ∷ event.Took (mid 2) ∷ event.Marked (mark.Answer 1 (answer.Err (record { 0 = 2 }) None)) ∷ []
+
+refused_in_one_frame : divergence run made missing ≡ None
+unfolding chars components wire_request reply_in is_interim_of head_of head_at number_at first_of frames_in rest_in step_of parts_of read_of contexts_of set_of path.components path.after_part fault_of spelling
+refused_in_one_frame = refl

@@ -80,7 +80,7 @@ left_more fs f (owed.Reply m q reply ∷ coming) sound none =
 left_more fs f (owed.Aside m q ∷ coming) sound none =
     ap (λ (l : List Flight). left l coming) (but_more m fs f (apart_of m f.mid fs q false none sound.0))
     ∙ left_more (flights_but m fs) f coming sound.1 (but_still_none f.mid m fs none)
-left_more fs f (owed.Notice key state ∷ coming) sound none = absurd sound
+left_more fs f (owed.Notice key state wanted ∷ coming) sound none = absurd sound
 
 sound_more : (fs : List Flight) (f : Flight) (coming : List Owed) → Sound fs coming → flight_with f.mid fs ≡ None → Sound (fs ++ f ∷ []) coming
 sound_more fs f [] sound none = record {}
@@ -96,7 +96,7 @@ sound_more fs f (owed.Aside m q ∷ coming) sound none = (
   subst (λ (l : List Flight). Sound l coming) (sym (but_more m fs f (apart_of m f.mid fs q false none sound.0)))
       (sound_more (flights_but m fs) f coming sound.1 (but_still_none f.mid m fs none)),
 )
-sound_more fs f (owed.Notice key state ∷ coming) sound none = absurd sound
+sound_more fs f (owed.Notice key state wanted ∷ coming) sound none = absurd sound
 
 no_reply_yet : (fs : List Flight) (n : Mid) (coming : List Owed) → Sound fs coming → flight_with n fs ≡ None → reply_for n coming ≡ None
 no_reply_yet fs n [] sound none = refl
@@ -105,7 +105,7 @@ no_reply_yet fs n (owed.Reply m q reply ∷ coming) sound none =
     ap (λ (t : Bool). if t then Some reply else reply_for n coming) (turned n.0 m.0 (apart_of m n fs q true none sound.0.1))
     ∙ no_reply_yet (flights_but m fs) n coming sound.1 (but_still_none n m fs none)
 no_reply_yet fs n (owed.Aside m q ∷ coming) sound none = no_reply_yet (flights_but m fs) n coming sound.1 (but_still_none n m fs none)
-no_reply_yet fs n (owed.Notice key state ∷ coming) sound none = absurd sound
+no_reply_yet fs n (owed.Notice key state wanted ∷ coming) sound none = absurd sound
 
 -- the request is the next one of its call, as the plain client makes it
 abbrev FliesFor : Option Item → Flight → Type 0

@@ -9,6 +9,7 @@ use Rattle.share_spec.specs.declared.opens.Open.{Open}
 use Rattle.share_spec.specs.declared.request.Req.{Req}
 use Rattle.share_spec.specs.declared.request.Rep.{Rep}
 use Rattle.share_spec.specs.declared.share.Share.{Share}
+use Rattle.share_spec.specs.State.{Making}
 use Rattle.share_spec.specs.Reply.{fid_of, map_fid}
 use Rattle.share_spec.specs.PlainShare.{plain_step}
 use Rattle.smb_link.specs.declared.event.Event.{Event}
@@ -144,8 +145,8 @@ divergence_from run n s p (e ∷ events) =
     first_of_two n (judged_event run s p e) (divergence_from run (n + 1) (happens s e) (side_after run s p e) events)
 
 -- the first divergence of a story, with the number of its event from 1 on
-abbrev pub divergence : Run → ℕ → Bool → List Event → Option (ℕ × Difference)
-divergence run room fold story = divergence_from run 1 (start room fold story) (plain_side room fold story) story
+abbrev pub divergence : Run → Making → List Event → Option (ℕ × Difference)
+divergence run made story = divergence_from run 1 (start made.room made.fold story) (plain_side made story) story
 
 -- the plain side after events
 abbrev pub side_at : Run → Share → PlainSide → List Event → PlainSide

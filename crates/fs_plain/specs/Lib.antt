@@ -22,3 +22,4 @@ pub mod PlainSide
 pub mod PlainTaken
 pub mod PlainAnswered
 pub mod Divergence
+pub mod Holders

@@ -9,7 +9,7 @@ use Rattle.fs_types.specs.declared.call.Call.TheVariants as call
 use Rattle.share_spec.specs.declared.opens.Open.{Open}
 use Rattle.share_spec.specs.declared.request.Rep.{Rep}
 use Rattle.share_spec.specs.declared.share.Share.{Share}
-use Rattle.share_spec.specs.State.{fresh_share}
+use Rattle.share_spec.specs.State.{Making, fresh_share}
 use Rattle.share_spec.specs.Reply.{fid_of}
 use Rattle.share_spec.specs.PlainShare.{plain_share, plain_step, shown}
 use Rattle.smb_link.specs.declared.event.Event.{Event}
@@ -58,9 +58,9 @@ abbrev pub deeds_in : List Event → ℕ
 deeds_in events = length (filter is_deed events)
 
 -- before the first event
-abbrev pub plain_side : ℕ → Bool → List Event → PlainSide
-plain_side room fold story = record {
-  plain = plain_share (fresh_share room fold);
+abbrev pub plain_side : Making → List Event → PlainSide
+plain_side made story = record {
+  plain = plain_share (fresh_share made.room made.fold);
   pairs = [];
   kept = [];
   running = [];

@@ -134,17 +134,17 @@ aside_with (Ok head) mid request message =
 unfoldable pub is_aside_reply : Mid → List ℕ → List ℕ → Bool
 is_aside_reply mid request message = aside_with (head_of message) mid request message
 
-abbrev pub notice_with : Result Head HeadFault → Key → ℕ → List ℕ → Type 0
-notice_with (Err fault) key state message = ⊥
-notice_with (Ok head) key state message =
+abbrev pub notice_with : Result Head HeadFault → Key → ℕ → Bool → List ℕ → Type 0
+notice_with (Err fault) key state wanted message = ⊥
+notice_with (Ok head) key state wanted message =
     (head.command ≡ OPLOCK_BREAK) × (head.status.0 ≡ 0) × (head.mid.0 ≡ 2 ^ 64 - 1) × (has head.flags.0 1 ≡ true)
-    × (has_body 44 message ≡ true) × (has (number_at 4 68 message) 1 ≡ true) × (bytes_at 72 16 message ≡ key.0)
+    × (has_body 44 message ≡ true) × (has (number_at 4 68 message) 1 ≡ wanted) × (bytes_at 72 16 message ≡ key.0)
     × (bit_and (number_at 4 92 message) 7 ≡ state)
 
--- a message is the notice that a lease is to be broken to a state, and wants to be acknowledged (MS-SMB2 2.2.23.2): flags at 68, the
--- key at 72, the new state at 92
-unfoldable pub IsNotice : Key → ℕ → List ℕ → Type 0
-IsNotice key state message = notice_with (head_of message) key state message
+-- a message is the notice that a lease is to be broken to a state, and says whether it wants to be acknowledged (MS-SMB2 2.2.23.2):
+-- flags at 68, the key at 72, the new state at 92
+unfoldable pub IsNotice : Key → ℕ → Bool → List ℕ → Type 0
+IsNotice key state wanted message = notice_with (head_of message) key state wanted message
 
 -- a message is what is owed. Of a final reply all that the share decides has to agree; times, allocation sizes, credits and the ids
 -- of session and tree are the server's own.
@@ -152,4 +152,4 @@ abbrev pub Pays : Owed → List ℕ → Type 0
 Pays (owed.Interim mid request) message = is_interim_of mid request message ≡ true
 Pays (owed.Reply mid request reply) message = reply_in mid request message ≡ Some reply
 Pays (owed.Aside mid request) message = is_aside_reply mid request message ≡ true
-Pays (owed.Notice key state) message = IsNotice key state message
+Pays (owed.Notice key state wanted) message = IsNotice key state wanted message

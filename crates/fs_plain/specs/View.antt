@@ -75,7 +75,7 @@ left flights [] = flights
 left flights (owed.Interim mid request ∷ coming) = left flights coming
 left flights (owed.Reply mid request reply ∷ coming) = left (flights_but mid flights) coming
 left flights (owed.Aside mid request ∷ coming) = left (flights_but mid flights) coming
-left flights (owed.Notice key state ∷ coming) = left flights coming
+left flights (owed.Notice key state wanted ∷ coming) = left flights coming
 
 -- a flight is this request, of a call or of the connection itself
 abbrev pub is_of_call : Option ℕ → Bool
@@ -105,7 +105,7 @@ Sound flights (owed.Interim mid request ∷ coming) = IsOf request (flight_with 
 Sound flights (owed.Reply mid request reply ∷ coming) =
     (Names reply × IsFor true request (flight_with mid flights)) × Sound (flights_but mid flights) coming
 Sound flights (owed.Aside mid request ∷ coming) = IsFor false request (flight_with mid flights) × Sound (flights_but mid flights) coming
-Sound flights (owed.Notice key state ∷ coming) = ⊥
+Sound flights (owed.Notice key state wanted ∷ coming) = ⊥
 
 -- the share waits to take a request in flight, put off or not; each stands in a frame of its own
 abbrev pub calm : Sent → Sent

@@ -201,10 +201,10 @@ asked_of_first opens key state [] = []
 asked_of_first opens key state (l ∷ ls) =
     if is_breakable opens key l then record l { asked = Some state } ∷ ls else l ∷ asked_of_first opens key state ls
 
--- this client is owed a notice of the break of a lease of its own
+-- this client is owed a notice of the break of a lease of its own, which wants an acknowledgement
 abbrev pub notices : Option Lease → Key → ℕ → List Owed
 notices None key state = []
-notices (Some l) key state = if l.who.0 == 0 then owed.Notice key state ∷ [] else []
+notices (Some l) key state = if l.who.0 == 0 then owed.Notice key state true ∷ [] else []
 
 abbrev pub after_break : Key → ℕ → Share → Share
 after_break key state s = record s {

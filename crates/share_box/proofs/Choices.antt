@@ -57,7 +57,7 @@ abbrev GrantsNo : Owed → Type 0
 GrantsNo (owed.Interim mid request) = Unit {0}
 GrantsNo (owed.Reply mid request reply) = IsBare (grant_in reply.body)
 GrantsNo (owed.Aside mid request) = Unit {0}
-GrantsNo (owed.Notice key state) = Unit {0}
+GrantsNo (owed.Notice key state wanted) = Unit {0}
 
 and_left : (a b : Bool) → (a && b) ≡ true → a ≡ true
 and_left true b is = refl
@@ -135,9 +135,9 @@ aside_told (Ok head) mid request message is =
     (and_right (answers mid request head && not (is_interim head)) _ is)) in
     subst (λ (o : Option RepBody). IsBare (choice_of o)) (sym (not_opened 4 message body refl)) refl)
 
-notice_told : (head : Result Head HeadFault) (key : Key) (state : ℕ) (message : List ℕ) → notice_with head key state message → IsBare (told_by head message)
-notice_told (Err fault) key state message is = refl
-notice_told (Ok head) key state message is = none_told (Ok head) message (not_opened 44 message is.4 refl)
+notice_told : (head : Result Head HeadFault) (key : Key) (state : ℕ) (wanted : Bool) (message : List ℕ) → notice_with head key state wanted message → IsBare (told_by head message)
+notice_told (Err fault) key state wanted message is = refl
+notice_told (Ok head) key state wanted message is = none_told (Ok head) message (not_opened 44 message is.4 refl)
 
 -- a message that pays what grants nothing grants nothing
 paid_grants : (o : Owed) (message : List ℕ) → GrantsNo o → Pays o message → Grants (Ok message)
@@ -145,7 +145,7 @@ unfolding is_interim_of reply_in is_aside_reply IsNotice
 paid_grants (owed.Interim mid request) message none pays = interim_told (head_of message) mid request message pays
 paid_grants (owed.Reply mid request reply) message none pays = reply_told (head_of message) mid request message reply none pays
 paid_grants (owed.Aside mid request) message none pays = aside_told (head_of message) mid request message pays
-paid_grants (owed.Notice key state) message none pays = notice_told (head_of message) key state message pays
+paid_grants (owed.Notice key state wanted) message none pays = notice_told (head_of message) key state wanted message pays
 
 all_paid_grant : (owed : List Owed) (messages : List (Result (List ℕ) BadNext)) → AllByRecursion GrantsNo owed → ArePaid owed messages → AllByRecursion Grants messages
 all_paid_grant owed [] none paid = tt
@@ -224,7 +224,7 @@ notice_none : (l : Option Lease) (key : Key) (state : ℕ) → AllByRecursion Gr
 notice_none None key state = tt
 notice_none (Some l) key state = by (l.who.0 == 0)
   where
-    by : (t : Bool) → AllByRecursion GrantsNo (if t then owed.Notice key state ∷ [] else [])
+    by : (t : Bool) → AllByRecursion GrantsNo (if t then owed.Notice key state true ∷ [] else [])
     by true = (tt, tt)
     by false = tt
 

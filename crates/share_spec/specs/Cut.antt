@@ -35,9 +35,13 @@ ends_with who leases o = o.who.0 == who.0 && (not o.durable || is_broken leases 
 abbrev pub disconnected : Who → Open → Open
 disconnected who o = if o.who.0 == who.0 then record o { connected = false } else o
 
--- the share with a connection that stands or not, on which nothing is sent, owed or held
-abbrev pub with_connection : Bool → Share → Share
-with_connection stands s = record s { connected = stands; sent = []; owed = []; held = [] }
+-- what the share loses with a connection: what was sent on it and not taken
+abbrev pub lost_by_share : Share → Share
+lost_by_share s = record s { connected = false; sent = [] }
+
+-- what the client loses once it is told: what it is owed and did not get, and the bytes that it holds of a frame
+abbrev pub lost_by_client : Share → Share
+lost_by_client s = record s { owed = []; held = [] }
 
 -- the lists of the share once a client's connection is lost
 abbrev pub after_cut_of : Who → Share → Share
@@ -45,13 +49,17 @@ after_cut_of who s =
     let left : Share = all_closed (filter (ends_with who s.leases) s.opens) s in
     record left { opens = map (disconnected who) left.opens }
 
--- the connection of client 0 is lost, with all that was sent and not taken, and owed and not got
+-- the connection of client 0 is lost at the share
+abbrev pub after_loss : Share → Share
+after_loss s = lost_by_share (after_cut_of (record { 0 = 0 }) s)
+
+-- it is lost, and the client is told so at once
 abbrev pub after_cut : Share → Share
-after_cut s = with_connection false (after_cut_of (record { 0 = 0 }) s)
+after_cut s = lost_by_client (after_loss s)
 
 -- a new connection of client 0 begins empty; the disconnected opens stay as they are until they are reclaimed or dropped
 abbrev pub after_join : Share → Share
-after_join s = with_connection true s
+after_join s = record (lost_by_client (lost_by_share s)) { connected = true }
 
 -- the share drops the disconnected opens of client 0 under a key
 abbrev pub after_drop : Key → Share → Share

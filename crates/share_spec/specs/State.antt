@@ -6,6 +6,11 @@ use Rattle.share_spec.specs.declared.entry.Entry.{Entry}
 use Rattle.share_spec.specs.declared.opens.Open.{Open}
 use Rattle.share_spec.specs.declared.share.Share.{Share}
 
+-- what a share is made with: how many bytes all files may have together, and whether `a` to `z` in names are as `A` to `Z`
+pub record Making : Type 0 where
+  pub room : ℕ
+  pub fold : Bool
+
 -- a share that has the root alone, node 1
 abbrev pub fresh_share : ℕ → Bool → Share
 fresh_share room fold = record {

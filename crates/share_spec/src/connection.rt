@@ -43,8 +43,9 @@ pub enum Owed {
     Reply(Mid, Bytes, Rep),
     /// The reply to a request that changes nothing on the share, as those of a mount; the request was the message.
     Aside(Mid, Bytes),
-    /// The notice that the lease under this key is to be broken to this state (MS-SMB2 2.2.23.2).
-    Notice(Key, u8),
+    /// The notice that the lease under this key is to be broken to this state (MS-SMB2 2.2.23.2), and whether it wants an
+    /// acknowledgement.
+    Notice(Key, u8, bool),
 }
 
 /// What the share chose at a request that was taken: the lease state, and whether the open is durable.
