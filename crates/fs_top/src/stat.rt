@@ -389,5 +389,5 @@ fn shown_mode(dir: bool, read_only: bool) -> u16
     } else {
         OPTIONS.file_mode
     };
-    if read_only { mode & 0o555 } else { mode }
+    if read_only { mode & 0o7555 } else { mode }
 }

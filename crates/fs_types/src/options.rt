@@ -13,9 +13,9 @@ pub struct Options {
     pub nobrl: bool,
     /// Nothing on the share is changed (`ro`).
     pub ro: bool,
-    /// The mode that is shown of a file, at most 0777.
+    /// The mode that is shown of a file, at most 07777.
     pub file_mode: u16,
-    /// The mode that is shown of a directory, at most 0777.
+    /// The mode that is shown of a directory, at most 07777.
     pub dir_mode: u16,
     /// The most bytes that one request reads, 4,096 to 262,144.
     pub rsize: u32,

@@ -1,5 +1,5 @@
 -- What a call asks of the share, one request after another, and what it answers in the end.
-use Rattle.std.specs.Prelude.{ℕ, zero, suc, ◌==◌, Bool, List, [], ◌∷◌, Option, Some, None, Result, Ok, Err, if◌then◌else◌, nat_lt, length, bit_and}
+use Rattle.std.specs.Prelude.{ℕ, zero, suc, ◌==◌, Bool, List, [], ◌∷◌, Option, Some, None, Result, Ok, Err, if◌then◌else◌, nat_lt, length}
 use Rattle.smb_base.specs.declared.names.Status.{Status}
 use Rattle.smb_base.specs.ErrorTable.{error_number}
 use Rattle.smb_names.specs.declared.map.NameMap.{NameMap}

@@ -8,14 +8,14 @@ use Rattle.fs_types.specs.declared.names.Kind.{Kind}
 use Rattle.fs_types.specs.declared.names.Kind.TheVariants as kind
 use Rattle.fs_types.specs.declared.answer.Answer.{Answer}
 use Rattle.fs_types.specs.declared.answer.Answer.TheVariants as answer
-use Rattle.smb_link.specs.Program.{Own, Wish, Program, Open, Query, Close, Ask, Say, of_refusal, of_errno, at_path}
+use Rattle.smb_link.specs.Program.{Own, Program, Open, Query, Close, Ask, Say, of_refusal, of_errno, at_path}
 
--- the mode that is shown: that of the options for files or for directories, without the three bits for writing where it is
--- read-only
+-- the mode that is shown: that of the options for files or for directories, without the three bits for writing (0222) where it is
+-- read-only; those for set-user-id, set-group-id and sticky stay
 abbrev pub shown_mode : Options → Bool → Bool → ℕ
 shown_mode options dir read_only =
     let mode : ℕ = if dir then options.dir_mode else options.file_mode in
-    if read_only then bit_and mode 0x16D else mode
+    if read_only then bit_and mode 0xF6D else mode
 
 abbrev pub kind_of : Bool → Kind
 kind_of dir = if dir then kind.Dir else kind.File
