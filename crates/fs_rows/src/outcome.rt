@@ -1,0 +1,241 @@
+//! Plays a row, and tells what came of it.
+
+use crate::mount::mount;
+use crate::row::{Row, Side, Step, Wanted};
+use crate::story::{marks, put, sent, tell};
+use anyhow::{Result, bail};
+use fs_top::smbfs;
+use share_box::{BoxLink, Schedule, TurnList};
+use smb_base::{Bytes, U64List};
+use smb_link::{
+    Event, Given, GivenList, Got, Link, LinkFail, ListLink, Mark, MemClock, MemSink, MemSource,
+};
+use std::alloc::Global;
+
+/// The seed of each run, and the id of the client of each mount.
+pub const SEED: [u8; 16] = [0, 1, 2, 3, 4, 5, 6, 7, 8, 9, 10, 11, 12, 13, 14, 15];
+
+/// The most receives that one frame takes.
+const RECEIVES: u32 = 100_000;
+
+/// What came of a row, in pieces of this size, as a text of the same form as [`wanted`] has.
+pub fn found(alloc: Global, row: Row, size: usize) -> Result<Vec<u8>> {
+    match row.side {
+        Side::Peer(refused) => {
+            let turns = given(alloc, &row.steps, size)?;
+            let mut link = ListLink::new(alloc, refused, turns);
+            let (status, sink) = run(alloc, &row, &mut link)?;
+            report(alloc, status, &sink, link.story().as_slice(), &row.wanted)
+        }
+        Side::Share(room, fold, credits) => share(alloc, row, room, fold, credits, size),
+        Side::Mount(previous) => {
+            let path = row.path.as_str();
+            mount(alloc, path, previous, &row.steps, row.wanted.requests)
+        }
+        Side::None => bail!("the row names no other side"),
+    }
+}
+
+/// What came of a row with a share: of a run, or of a link's use alone.
+fn share(
+    alloc: Global,
+    row: Row,
+    room: u64,
+    fold: bool,
+    credits: u16,
+    size: usize,
+) -> Result<Vec<u8>> {
+    let mut row = row;
+    let turns = take_turns(alloc, &mut row.turns);
+    let mut link = BoxLink::new(alloc, room, fold, credits, Schedule::List(turns))?;
+    if row.words.is_some() {
+        let (status, sink) = run(alloc, &row, &mut link)?;
+        return report(alloc, status, &sink, link.story().as_slice(), &row.wanted);
+    }
+    for step in &row.steps {
+        take_step(alloc, &mut link, step, size)?;
+    }
+    let mut text = Vec::new(alloc);
+    tell(alloc, link.story().as_slice(), &mut text)?;
+    Ok(text)
+}
+
+/// The turns, without a copy.
+fn take_turns(alloc: Global, turns: &mut TurnList) -> TurnList {
+    std::mem::replace(turns, TurnList::new(alloc))
+}
+
+/// The program's run over this link: its status, and what it printed.
+fn run<L: Link>(alloc: Global, row: &Row, link: &mut L) -> Result<(u8, MemSink)> {
+    let Some(words) = &row.words else {
+        bail!("the row has no words");
+    };
+    let script = Bytes::of(alloc, &row.script)?;
+    let mut input = MemSource::new(script, copy(alloc, &row.fail_read)?);
+    let mut sink = MemSink::new(alloc, copy(alloc, &row.fail_write)?);
+    let mut clock = MemClock::new(copy(alloc, &row.clock)?);
+    let status = smbfs(alloc, words, &mut input, &mut sink, link, &mut clock, SEED);
+    Ok((status, sink))
+}
+
+fn copy(alloc: Global, numbers: &U64List) -> Result<U64List> {
+    Ok(U64List::of(alloc, numbers.as_slice())?)
+}
+
+/// What a peer gives, in pieces of this size.
+fn given(alloc: Global, steps: &Vec<Step>, size: usize) -> Result<GivenList> {
+    let mut turns = GivenList::new(alloc);
+    for step in steps {
+        match step {
+            Step::Got(bytes) => give(alloc, bytes, size, &mut turns)?,
+            Step::Quiet => turns.push(Given::Quiet)?,
+            Step::Cut => turns.push(Given::Closed)?,
+            _ => bail!("a peer takes no such step"),
+        }
+    }
+    Ok(turns)
+}
+
+/// Adds bytes in pieces of this size.
+fn give(alloc: Global, bytes: &[u8], size: usize, turns: &mut GivenList) -> Result<()> {
+    for piece in bytes.chunks(size.max(1)) {
+        turns.push(Given::Piece(Bytes::of(alloc, piece)?))?;
+    }
+    Ok(())
+}
+
+/// Takes a step at the link of a share.
+fn take_step(alloc: Global, link: &mut BoxLink, step: &Step, size: usize) -> Result<()> {
+    let done = match step {
+        Step::Connect => link.connect("h", 445),
+        Step::Send(bytes) => link.send(bytes),
+        Step::Receive => return receive(alloc, link, size),
+        Step::Over => return Ok(link.mark(&Mark::End)?),
+        _ => bail!("what comes of a share is not given"),
+    };
+    match done {
+        Err(LinkFail::NoMemory) => bail!("out of memory"),
+        _ => Ok(()),
+    }
+}
+
+/// Receives bytes, so many at most at a time, until a frame is whole or nothing comes.
+fn receive(alloc: Global, link: &mut BoxLink, size: usize) -> Result<()> {
+    let mut buffer = vec![in alloc; 0u8; size.max(1)]?;
+    let mut bytes = Vec::new(alloc);
+    for _ in 0..RECEIVES {
+        match link.receive(&mut buffer) {
+            Got::Bytes(count) => put_front(&buffer, count, &mut bytes)?,
+            Got::Quiet | Got::Closed => return Ok(()),
+            Got::NoMemory => bail!("out of memory"),
+        }
+        if is_whole(&bytes) {
+            return Ok(());
+        }
+    }
+    bail!("a frame that does not end")
+}
+
+fn put_front(buffer: &[u8], count: usize, bytes: &mut Vec<u8>) -> Result<()> {
+    match buffer.get(..count) {
+        Some(front) => bytes.extend_from_slice(front)?,
+        None => bail!("more bytes than there is room for"),
+    }
+    Ok(())
+}
+
+/// Whether these bytes are a frame, with the four bytes of its length.
+fn is_whole(bytes: &[u8]) -> bool {
+    match bytes {
+        [first, second, third, fourth, message @ ..] => {
+            let len = u32::from_be_bytes([*first, *second, *third, *fourth]);
+            u64::from(len) <= message.len() as u64
+        }
+        _ => false,
+    }
+}
+
+/// What came of a run, of what is asked for.
+fn report(
+    alloc: Global,
+    status: u8,
+    sink: &MemSink,
+    events: &[Event],
+    wanted: &Wanted,
+) -> Result<Vec<u8>> {
+    let mut text = Vec::from_slice(alloc, sink.written())?;
+    if wanted.status.is_some() {
+        put(&mut text, format!(in alloc; "status {status}\n")?.as_str())?;
+    }
+    let frames = sent(alloc, events)?;
+    if wanted.sent.is_some() {
+        put(&mut text, "sent")?;
+        for frame in &frames {
+            put_command(alloc, command_of(frame), &mut text)?;
+        }
+        put(&mut text, "\n")?;
+    }
+    for (number, _) in &wanted.frames {
+        put_frame(alloc, *number, nth(&frames, *number), &mut text)?;
+    }
+    for (line, _) in &wanted.marks {
+        put_marks(alloc, *line, marks(events, *line), &mut text)?;
+    }
+    Ok(text)
+}
+
+/// What is wanted, as a text.
+pub fn wanted(alloc: Global, wanted: &Wanted) -> Result<Vec<u8>> {
+    let mut text = Vec::from_slice(alloc, &wanted.text)?;
+    if let Some(status) = &wanted.status {
+        put(&mut text, format!(in alloc; "status {status}\n")?.as_str())?;
+    }
+    if let Some(commands) = &wanted.sent {
+        put(&mut text, "sent")?;
+        for command in commands {
+            put_command(alloc, *command, &mut text)?;
+        }
+        put(&mut text, "\n")?;
+    }
+    for (number, frame) in &wanted.frames {
+        put_frame(alloc, *number, frame, &mut text)?;
+    }
+    for (line, count) in &wanted.marks {
+        put_marks(alloc, *line, *count, &mut text)?;
+    }
+    Ok(text)
+}
+
+fn put_command(alloc: Global, command: u16, text: &mut Vec<u8>) -> Result<()> {
+    put(text, format!(in alloc; " {command}")?.as_str())
+}
+
+fn put_marks(alloc: Global, line: u64, count: u64, text: &mut Vec<u8>) -> Result<()> {
+    put(text, format!(in alloc; "marks {line} {count}\n")?.as_str())
+}
+
+fn put_frame(alloc: Global, number: u64, frame: &[u8], text: &mut Vec<u8>) -> Result<()> {
+    put(text, format!(in alloc; "frame {number} ")?.as_str())?;
+    put(text, hex::encode_upper(alloc, frame)?.as_str())?;
+    put(text, "\n")
+}
+
+/// The command of a frame's first message; 65,535 where it is too short.
+fn command_of(frame: &[u8]) -> u16 {
+    match frame.get(16..18) {
+        Some([low, high]) => u16::from_le_bytes([*low, *high]),
+        _ => u16::MAX,
+    }
+}
+
+/// The frame with this number, from 1 on; empty where there is none.
+fn nth<'a>(frames: &Vec<&'a [u8]>, number: u64) -> &'a [u8] {
+    let mut at: u64 = 0;
+    for frame in frames {
+        at = at.saturating_add(1);
+        if at == number {
+            return frame;
+        }
+    }
+    &[]
+}

@@ -1,0 +1,461 @@
+//! A row: what is given, and what has to come of it.
+
+use crate::bytes::{Names, put_times};
+use crate::frames::{Fields, Head, INTERIM, REPLY, head_of, patch, reply, request};
+use crate::requests::act_of;
+use crate::words::{count, cut, hex32, hex64, medium, nothing, number, small};
+use anyhow::{Result, bail, ensure};
+use share_box::{Turn, TurnList};
+use smb_base::U64List;
+use std::alloc::Global;
+
+/// What stands on the other side.
+#[derive(Clone, Copy, PartialEq, Eq)]
+pub enum Side {
+    /// Nothing is said of it.
+    None,
+    /// A peer that gives bytes, whose first connects fail, as many as it is told.
+    Peer(u32),
+    /// A share, with so much room, the folding of names, and so many credits in each reply.
+    Share(u64, bool, u16),
+    /// No connection: the states of a mount alone, in place of the session with this number.
+    Mount(u64),
+}
+
+/// A step of a peer, of the one who uses a share's link, or of a mount.
+#[derive(Drop)]
+pub enum Step {
+    /// Bytes come.
+    Got(Vec<u8>),
+    /// Nothing comes for a while.
+    Quiet,
+    /// The connection ends.
+    Cut,
+    /// A connect.
+    Connect,
+    /// These bytes are sent.
+    Send(Vec<u8>),
+    /// A frame is received, or what comes in its place.
+    Receive,
+    /// The mark at the end of a script.
+    Over,
+}
+
+/// What is wanted beside the expected lines. What is not said is not looked at.
+#[derive(Drop)]
+pub struct Wanted {
+    /// The expected lines.
+    pub text: Vec<u8>,
+    /// The exit status.
+    pub status: Option<u64>,
+    /// The commands of the frames that are sent.
+    pub sent: Option<Vec<u16>>,
+    /// Frames that are sent, by their numbers from 1 on.
+    pub frames: Vec<(u64, Vec<u8>)>,
+    /// How many frames are announced for a line.
+    pub marks: Vec<(u64, u64)>,
+    /// Whether a mount tells its requests.
+    pub requests: bool,
+}
+
+/// What a row says.
+#[derive(Drop)]
+pub struct Row {
+    alloc: Global,
+    /// The other side.
+    pub side: Side,
+    /// The words of the command line, where there are any.
+    pub words: Option<Vec<String>>,
+    /// The script.
+    pub script: Vec<u8>,
+    /// The numbers of the reads that fail.
+    pub fail_read: U64List,
+    /// The numbers of the writes that fail.
+    pub fail_write: U64List,
+    /// The readings of the clock.
+    pub clock: U64List,
+    /// The turns of a share.
+    pub turns: TurnList,
+    /// The steps.
+    pub steps: Vec<Step>,
+    /// In how many bytes at most they come, once for each number.
+    pub pieces: Vec<usize>,
+    /// The path of the share that a mount is for.
+    pub path: String,
+    /// What is wanted.
+    pub wanted: Wanted,
+    head: Head,
+}
+
+impl Row {
+    /// A row that says nothing so far.
+    pub fn new(alloc: Global) -> Result<Row> {
+        Ok(Row {
+            alloc,
+            side: Side::None,
+            words: None,
+            script: Vec::new(alloc),
+            fail_read: U64List::of(alloc, &[])?,
+            fail_write: U64List::of(alloc, &[])?,
+            clock: U64List::of(alloc, &[])?,
+            turns: TurnList::new(alloc),
+            steps: Vec::new(alloc),
+            pieces: Vec::new(alloc),
+            path: String::new(alloc),
+            wanted: Wanted {
+                text: Vec::new(alloc),
+                status: None,
+                sent: None,
+                frames: Vec::new(alloc),
+                marks: Vec::new(alloc),
+                requests: false,
+            },
+            head: [0; 64],
+        })
+    }
+
+    /// Takes a line that says what is given. It answers `false` where the line is none.
+    pub fn given(&mut self, names: &Names, line: &str) -> Result<bool> {
+        let (word, rest) = cut(line);
+        if self.outside(names, word, rest)? || self.sides(word, rest)? || self.turned(word, rest)? {
+            return Ok(true);
+        }
+        self.happens(names, word, rest)
+    }
+
+    /// The words, the script, the clock and the pieces.
+    fn outside(&mut self, names: &Names, word: &str, rest: &str) -> Result<bool> {
+        match word {
+            "words" => self.add_words(rest)?,
+            "word" => self.add_word(rest)?,
+            "script" => {
+                self.script.extend_from_slice(rest.as_bytes())?;
+                self.script.push(b'\n')?;
+            }
+            "no-script" => {
+                nothing(rest)?;
+                self.script.clear();
+            }
+            "text" => self.script.extend_from_slice(rest.as_bytes())?,
+            "repeat" => {
+                let (times, text) = cut(rest);
+                put_times(text.as_bytes(), count(times)?, &mut self.script)?;
+            }
+            "input" => {
+                let bytes = names.bytes(self.alloc, rest)?;
+                self.script.extend_from_slice(&bytes)?;
+            }
+            "fail-read" => self.fail_read = numbers(self.alloc, rest)?,
+            "fail-write" => self.fail_write = numbers(self.alloc, rest)?,
+            "clock" => self.clock = numbers(self.alloc, rest)?,
+            "pieces" => self.add_pieces(rest)?,
+            _ => return Ok(false),
+        }
+        Ok(true)
+    }
+
+    fn add_words(&mut self, rest: &str) -> Result<()> {
+        self.words = Some(Vec::new(self.alloc));
+        for word in rest.split_whitespace() {
+            self.add_word(word)?;
+        }
+        Ok(())
+    }
+
+    /// One more word of the command line.
+    fn add_word(&mut self, word: &str) -> Result<()> {
+        let word = String::from_str(self.alloc, word)?;
+        let Some(words) = &mut self.words else {
+            bail!("no words before it");
+        };
+        words.push(word)?;
+        Ok(())
+    }
+
+    fn add_pieces(&mut self, rest: &str) -> Result<()> {
+        self.pieces.clear();
+        for word in rest.split_whitespace() {
+            let size = count(word)?;
+            ensure!(1 <= size && size <= 65_536, "pieces of 1 to 65536 bytes");
+            self.pieces.push(size)?;
+        }
+        Ok(())
+    }
+
+    /// The other side.
+    fn sides(&mut self, word: &str, rest: &str) -> Result<bool> {
+        match word {
+            "peer" => {
+                self.side = Side::Peer(0);
+                self.steps.clear();
+                nothing(rest)?;
+            }
+            "refuse" => match self.side {
+                Side::Peer(_) => self.side = Side::Peer(medium(rest)?),
+                _ => bail!("no peer before it"),
+            },
+            "box" => {
+                self.side = share_of(rest)?;
+                self.steps.clear();
+                self.turns = TurnList::new(self.alloc);
+            }
+            "mount" => {
+                let (previous, path) = cut(rest);
+                self.side = Side::Mount(hex64(previous)?);
+                self.path = String::from_str(self.alloc, path)?;
+            }
+            _ => return Ok(false),
+        }
+        Ok(true)
+    }
+
+    /// The turns of a share.
+    fn turned(&mut self, word: &str, rest: &str) -> Result<bool> {
+        match word {
+            "turns" => {
+                for turn in rest.split_whitespace() {
+                    self.add_turns(turn)?;
+                }
+            }
+            "serve" => self.turns.push(Turn::Serve(medium(rest)?))?,
+            "act" => self.turns.push(act_of(self.alloc, rest)?)?,
+            _ => return Ok(false),
+        }
+        Ok(true)
+    }
+
+    /// The turn with this name, or of `NAME*N` N of them.
+    fn add_turns(&mut self, word: &str) -> Result<()> {
+        let (name, times) = match word.split_once('*') {
+            Some((name, times)) => (name, count(times)?),
+            None => (word, 1),
+        };
+        ensure!(times <= 100_000, "{times} turns are too many");
+        for _ in 0..times {
+            self.turns.push(turn_of(name)?)?;
+        }
+        Ok(())
+    }
+
+    /// What happens at the link, in its order.
+    fn happens(&mut self, names: &Names, word: &str, rest: &str) -> Result<bool> {
+        match word {
+            "head" => self.head = head_of(&names.bytes(self.alloc, rest)?)?,
+            "connect" => self.step(Step::Connect, rest)?,
+            "receive" => self.step(Step::Receive, rest)?,
+            "over" => self.step(Step::Over, rest)?,
+            "send" => {
+                let bytes = names.bytes(self.alloc, rest)?;
+                self.steps.push(Step::Send(bytes))?;
+            }
+            "ask" => {
+                let frame = self.asked(names, rest)?;
+                self.steps.push(Step::Send(frame))?;
+            }
+            "patch" => self.patch(names, rest)?,
+            _ => return self.comes(names, word, rest),
+        }
+        Ok(true)
+    }
+
+    fn step(&mut self, step: Step, rest: &str) -> Result<()> {
+        nothing(rest)?;
+        self.steps.push(step)?;
+        Ok(())
+    }
+
+    /// What comes: a peer gives it, and of a share it is wanted.
+    fn comes(&mut self, names: &Names, word: &str, rest: &str) -> Result<bool> {
+        match word {
+            "got" => {
+                let bytes = names.bytes(self.alloc, rest)?;
+                self.come(bytes)?;
+            }
+            "reply" => {
+                let frame = self.replied(names, rest)?;
+                self.come(frame)?;
+            }
+            "interim" => {
+                let frame = self.put_off(names, rest)?;
+                self.come(frame)?;
+            }
+            "quiet" => self.come_quiets(rest)?,
+            "cut" => self.come_cut(rest)?,
+            _ => return Ok(false),
+        }
+        Ok(true)
+    }
+
+    fn come(&mut self, bytes: Vec<u8>) -> Result<()> {
+        match self.side {
+            Side::Share(_, _, _) => {
+                self.wanted.text.extend_from_slice(b"got ")?;
+                let digits = hex::encode_upper(self.alloc, &bytes)?;
+                self.wanted.text.extend_from_slice(digits.as_str().as_bytes())?;
+                self.wanted.text.push(b'\n')?;
+            }
+            _ => self.steps.push(Step::Got(bytes))?,
+        }
+        Ok(())
+    }
+
+    fn come_quiets(&mut self, rest: &str) -> Result<()> {
+        let times = if rest.is_empty() { 1 } else { count(rest)? };
+        ensure!(times <= 100_000, "{times} times are too many");
+        for _ in 0..times {
+            match self.side {
+                Side::Share(_, _, _) => self.wanted.text.extend_from_slice(b"quiet\n")?,
+                _ => self.steps.push(Step::Quiet)?,
+            }
+        }
+        Ok(())
+    }
+
+    fn come_cut(&mut self, rest: &str) -> Result<()> {
+        nothing(rest)?;
+        match self.side {
+            Side::Share(_, _, _) => self.wanted.text.extend_from_slice(b"cut\n")?,
+            _ => self.steps.push(Step::Cut)?,
+        }
+        Ok(())
+    }
+
+    /// The frame of a request: `COMMAND ID BODY`.
+    fn asked(&self, names: &Names, rest: &str) -> Result<Vec<u8>> {
+        let (command, rest) = cut(rest);
+        let (mid, body) = cut(rest);
+        let fields = Fields {
+            command: small(command)?,
+            mid: number(mid)?,
+            status: 0,
+            flags: 0,
+        };
+        request(self.alloc, &self.head, fields, &names.bytes(self.alloc, body)?)
+    }
+
+    /// The frame of a reply: `COMMAND ID STATUS BODY`.
+    fn replied(&self, names: &Names, rest: &str) -> Result<Vec<u8>> {
+        let (command, rest) = cut(rest);
+        let (mid, rest) = cut(rest);
+        let (status, body) = cut(rest);
+        let fields = Fields {
+            command: small(command)?,
+            mid: number(mid)?,
+            status: hex32(status)?,
+            flags: REPLY,
+        };
+        reply(self.alloc, &self.head, fields, &names.bytes(self.alloc, body)?)
+    }
+
+    /// The frame of an interim reply: `COMMAND ID BODY`, with the status PENDING.
+    fn put_off(&self, names: &Names, rest: &str) -> Result<Vec<u8>> {
+        let (command, rest) = cut(rest);
+        let (mid, body) = cut(rest);
+        let fields = Fields {
+            command: small(command)?,
+            mid: number(mid)?,
+            status: 0x103,
+            flags: INTERIM,
+        };
+        reply(self.alloc, &self.head, fields, &names.bytes(self.alloc, body)?)
+    }
+
+    /// Changes bytes of what comes: `NUMBER OFFSET BYTES`, the number from 1 on.
+    fn patch(&mut self, names: &Names, rest: &str) -> Result<()> {
+        let (which, rest) = cut(rest);
+        let (place, bytes) = cut(rest);
+        let which = number(which)?;
+        let place = count(place)?;
+        let bytes = names.bytes(self.alloc, bytes)?;
+        let mut at: u64 = 0;
+        for step in self.steps.iter_mut() {
+            if let Step::Got(frame) = step {
+                at = at.saturating_add(1);
+                if at == which {
+                    return patch(frame, place, &bytes);
+                }
+            }
+        }
+        bail!("there is no {which}th frame")
+    }
+
+    /// Takes a line that says what is wanted.
+    pub fn wants(&mut self, names: &Names, line: &str) -> Result<()> {
+        let (word, rest) = cut(line);
+        match word {
+            ">" => {
+                self.wanted.text.extend_from_slice(rest.as_bytes())?;
+                self.wanted.text.push(b'\n')?;
+            }
+            "status" => self.wanted.status = Some(number(rest)?),
+            "sent" => self.wanted.sent = Some(commands(self.alloc, rest)?),
+            "frame" => {
+                let (which, bytes) = cut(rest);
+                let frame = names.bytes(self.alloc, bytes)?;
+                self.wanted.frames.push((number(which)?, frame))?;
+            }
+            "marks" => {
+                let (line, frames) = cut(rest);
+                self.wanted.marks.push((number(line)?, number(frames)?))?;
+            }
+            "request" => self.wants_request(names, rest)?,
+            _ => bail!("no row has the word {word:?}"),
+        }
+        Ok(())
+    }
+
+    /// A request that a mount makes: `COMMAND CHARGE TREE SESSION BODY`.
+    fn wants_request(&mut self, names: &Names, rest: &str) -> Result<()> {
+        self.wanted.requests = true;
+        let (command, rest) = cut(rest);
+        let (charge, rest) = cut(rest);
+        let (tree, rest) = cut(rest);
+        let (session, body) = cut(rest);
+        let body = hex::encode_upper(self.alloc, names.bytes(self.alloc, body)?)?;
+        let body = body.as_str();
+        let line = format!(in self.alloc; "request {command} {charge} {tree} {session} {body}\n")?;
+        self.wanted.text.extend_from_slice(line.as_str().as_bytes())?;
+        Ok(())
+    }
+}
+
+/// The share of `room N credits N`, or `room N credits N fold`.
+fn share_of(rest: &str) -> Result<Side> {
+    let (room, rest) = cut(rest);
+    let (bytes, rest) = cut(rest);
+    let (credits, rest) = cut(rest);
+    let (many, rest) = cut(rest);
+    ensure!(room == "room" && credits == "credits", "no room or no credits");
+    ensure!(rest.is_empty() || rest == "fold", "{rest:?} is no way to fold names");
+    Ok(Side::Share(number(bytes)?, rest == "fold", small(many)?))
+}
+
+/// The turn with this name.
+fn turn_of(name: &str) -> Result<Turn> {
+    Ok(match name {
+        "serve" => Turn::Serve(0),
+        "quiet" => Turn::Quiet,
+        "cut" => Turn::Cut,
+        "drop" => Turn::DropAll,
+        "refuse" => Turn::RefuseConnect,
+        _ => bail!("no turn has the name {name:?}"),
+    })
+}
+
+/// Numbers.
+fn numbers(alloc: Global, rest: &str) -> Result<U64List> {
+    let mut list = Vec::new(alloc);
+    for word in rest.split_whitespace() {
+        list.push(number(word)?)?;
+    }
+    Ok(U64List::of(alloc, &list)?)
+}
+
+/// Numbers of commands.
+fn commands(alloc: Global, rest: &str) -> Result<Vec<u16>> {
+    let mut list = Vec::new(alloc);
+    for word in rest.split_whitespace() {
+        list.push(small(word)?)?;
+    }
+    Ok(list)
+}

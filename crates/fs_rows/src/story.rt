@@ -1,0 +1,110 @@
+//! The story of a link in words.
+
+use anyhow::Result;
+use smb_link::{Event, Mark};
+use std::alloc::Global;
+
+/// Adds what happened, one line for each event. Bytes that came in several pieces are one event.
+pub fn tell(alloc: Global, events: &[Event], out: &mut Vec<u8>) -> Result<()> {
+    let mut within = false;
+    for event in events {
+        if let Event::Got(bytes) = event {
+            if !within {
+                put(out, "got ")?;
+            }
+            let digits = hex::encode_upper(alloc, bytes.as_slice())?;
+            put(out, digits.as_str())?;
+            within = true;
+        } else {
+            if within {
+                put(out, "\n")?;
+            }
+            within = false;
+            tell_other(alloc, event, out)?;
+        }
+    }
+    if within {
+        put(out, "\n")?;
+    }
+    Ok(())
+}
+
+/// Adds a text.
+pub fn put(out: &mut Vec<u8>, text: &str) -> Result<()> {
+    out.extend_from_slice(text.as_bytes())?;
+    Ok(())
+}
+
+/// Adds the line of an event at which no bytes come.
+fn tell_other(alloc: Global, event: &Event, out: &mut Vec<u8>) -> Result<()> {
+    match event {
+        Event::Marked(mark) => tell_mark(alloc, mark, out),
+        Event::Sent(_) => put(out, "sent\n"),
+        Event::Quiet => put(out, "quiet\n"),
+        Event::Joined => put(out, "joined\n"),
+        Event::NotJoined => put(out, "notjoined\n"),
+        Event::Cut => put(out, "cut\n"),
+        _ => tell_share(alloc, event, out),
+    }
+}
+
+/// Adds the line of what a share did.
+fn tell_share(alloc: Global, event: &Event, out: &mut Vec<u8>) -> Result<()> {
+    match event {
+        Event::Took(mid) => {
+            let number = mid.0;
+            put(out, format!(in alloc; "took {number}\n")?.as_str())
+        }
+        Event::Pend(mid) => {
+            let number = mid.0;
+            put(out, format!(in alloc; "pend {number}\n")?.as_str())
+        }
+        Event::Act(who, _, reply) => {
+            let status = reply.status.0;
+            put(out, format!(in alloc; "act {who} {status:08X}\n")?.as_str())
+        }
+        Event::Break(_, state) => put(out, format!(in alloc; "break {state}\n")?.as_str()),
+        Event::Dropped(_) => put(out, "dropped\n"),
+        _ => Ok(()),
+    }
+}
+
+/// Adds the line of a mark.
+fn tell_mark(alloc: Global, mark: &Mark, out: &mut Vec<u8>) -> Result<()> {
+    match mark {
+        Mark::Begin(line, lane, _) => {
+            put(out, format!(in alloc; "begin {line} {lane}\n")?.as_str())
+        }
+        Mark::For(line, first, many) => {
+            let first = first.0;
+            put(out, format!(in alloc; "for {line} {first} {many}\n")?.as_str())
+        }
+        Mark::Answer(line, _) => put(out, format!(in alloc; "answer {line}\n")?.as_str()),
+        Mark::Now(time) => put(out, format!(in alloc; "now {time}\n")?.as_str()),
+        Mark::End => put(out, "over\n"),
+    }
+}
+
+/// The frames that were sent.
+pub fn sent(alloc: Global, events: &[Event]) -> Result<Vec<&[u8]>> {
+    let mut frames = Vec::new(alloc);
+    for event in events {
+        if let Event::Sent(frame) = event {
+            frames.push(frame.as_slice())?;
+        }
+    }
+    Ok(frames)
+}
+
+/// How many frames were announced for a line.
+pub fn marks(events: &[Event], line: u64) -> u64 {
+    let mut count: u64 = 0;
+    for event in events {
+        if let Event::Marked(Mark::For(number, _, _)) = event {
+            if *number == line {
+                count = count.saturating_add(1);
+            }
+        }
+    }
+    count
+}
