@@ -10,9 +10,9 @@ mod bytes;
 mod frames;
 mod mount;
 mod outcome;
-
 mod requests;
 mod row;
+mod slow;
 mod story;
 mod words;
 
@@ -69,12 +69,7 @@ fn play(rt: &(impl Print + AllocGlobal), book: &Book, number: usize) -> Result<b
 }
 
 /// Plays a row in pieces of this size, and says whether it came out. If not, it prints what was wanted and what was found.
-fn once(
-    rt: &(impl Print + AllocGlobal),
-    book: &Book,
-    number: usize,
-    size: usize,
-) -> Result<bool> {
+fn once(rt: &(impl Print + AllocGlobal), book: &Book, number: usize, size: usize) -> Result<bool> {
     let alloc = rt.alloc();
     let row = book.row(alloc, number)?;
     let name = book.name(number);

@@ -2,7 +2,8 @@
 
 use crate::mount::mount;
 use crate::row::{Row, Side, Step, Wanted};
-use crate::story::{marks, put, sent, tell};
+use crate::slow::Slow;
+use crate::story::{connects, marks, put, sent, tell};
 use anyhow::{Result, bail};
 use fs_top::smbfs;
 use share_box::{BoxLink, Schedule, TurnList};
@@ -71,7 +72,8 @@ fn run<L: Link>(alloc: Global, row: &Row, link: &mut L) -> Result<(u8, MemSink)>
         bail!("the row has no words");
     };
     let script = Bytes::of(alloc, &row.script)?;
-    let mut input = MemSource::new(script, copy(alloc, &row.fail_read)?);
+    let source = MemSource::new(script, copy(alloc, &row.fail_read)?);
+    let mut input = Slow::new(source, row.reads);
     let mut sink = MemSink::new(alloc, copy(alloc, &row.fail_write)?);
     let mut clock = MemClock::new(copy(alloc, &row.clock)?);
     let status = smbfs(alloc, words, &mut input, &mut sink, link, &mut clock, SEED);
@@ -175,6 +177,9 @@ fn report(
         }
         put(&mut text, "\n")?;
     }
+    if wanted.connects.is_some() {
+        put_connects(alloc, connects(events), &mut text)?;
+    }
     for (number, _) in &wanted.frames {
         put_frame(alloc, *number, nth(&frames, *number), &mut text)?;
     }
@@ -197,6 +202,9 @@ pub fn wanted(alloc: Global, wanted: &Wanted) -> Result<Vec<u8>> {
         }
         put(&mut text, "\n")?;
     }
+    if let Some(count) = &wanted.connects {
+        put_connects(alloc, *count, &mut text)?;
+    }
     for (number, frame) in &wanted.frames {
         put_frame(alloc, *number, frame, &mut text)?;
     }
@@ -208,6 +216,10 @@ pub fn wanted(alloc: Global, wanted: &Wanted) -> Result<Vec<u8>> {
 
 fn put_command(alloc: Global, command: u16, text: &mut Vec<u8>) -> Result<()> {
     put(text, format!(in alloc; " {command}")?.as_str())
+}
+
+fn put_connects(alloc: Global, count: u64, text: &mut Vec<u8>) -> Result<()> {
+    put(text, format!(in alloc; "connects {count}\n")?.as_str())
 }
 
 fn put_marks(alloc: Global, line: u64, count: u64, text: &mut Vec<u8>) -> Result<()> {

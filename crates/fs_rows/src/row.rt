@@ -50,6 +50,8 @@ pub struct Wanted {
     pub status: Option<u64>,
     /// The commands of the frames that are sent.
     pub sent: Option<Vec<u16>>,
+    /// How many connects are tried.
+    pub connects: Option<u64>,
     /// Frames that are sent, by their numbers from 1 on.
     pub frames: Vec<(u64, Vec<u8>)>,
     /// How many frames are announced for a line.
@@ -68,6 +70,8 @@ pub struct Row {
     pub words: Option<Vec<String>>,
     /// The script.
     pub script: Vec<u8>,
+    /// How many bytes of the script one read gives at most.
+    pub reads: usize,
     /// The numbers of the reads that fail.
     pub fail_read: U64List,
     /// The numbers of the writes that fail.
@@ -95,6 +99,7 @@ impl Row {
             side: Side::None,
             words: None,
             script: Vec::new(alloc),
+            reads: usize::MAX,
             fail_read: U64List::of(alloc, &[])?,
             fail_write: U64List::of(alloc, &[])?,
             clock: U64List::of(alloc, &[])?,
@@ -106,6 +111,7 @@ impl Row {
                 text: Vec::new(alloc),
                 status: None,
                 sent: None,
+                connects: None,
                 frames: Vec::new(alloc),
                 marks: Vec::new(alloc),
                 requests: false,
@@ -128,6 +134,10 @@ impl Row {
         match word {
             "words" => self.add_words(rest)?,
             "word" => self.add_word(rest)?,
+            "letters" => {
+                let bytes = names.bytes(self.alloc, rest)?;
+                self.add_letters(&bytes)?;
+            }
             "script" => {
                 self.script.extend_from_slice(rest.as_bytes())?;
                 self.script.push(b'\n')?;
@@ -149,6 +159,7 @@ impl Row {
             "fail-write" => self.fail_write = numbers(self.alloc, rest)?,
             "clock" => self.clock = numbers(self.alloc, rest)?,
             "pieces" => self.add_pieces(rest)?,
+            "reads" => self.reads = count(rest)?,
             _ => return Ok(false),
         }
         Ok(true)
@@ -169,6 +180,21 @@ impl Row {
             bail!("no words before it");
         };
         words.push(word)?;
+        Ok(())
+    }
+
+    /// These letters behind the last word.
+    fn add_letters(&mut self, bytes: &[u8]) -> Result<()> {
+        let Ok(text) = str::from_utf8(bytes) else {
+            bail!("letters that are none");
+        };
+        match &mut self.words {
+            Some(words) => match words.last_mut() {
+                Some(word) => word.push_str(text)?,
+                None => bail!("no word before them"),
+            },
+            None => bail!("no words before them"),
+        }
         Ok(())
     }
 
@@ -291,7 +317,9 @@ impl Row {
             Side::Share(_, _, _) => {
                 self.wanted.text.extend_from_slice(b"got ")?;
                 let digits = hex::encode_upper(self.alloc, &bytes)?;
-                self.wanted.text.extend_from_slice(digits.as_str().as_bytes())?;
+                self.wanted
+                    .text
+                    .extend_from_slice(digits.as_str().as_bytes())?;
                 self.wanted.text.push(b'\n')?;
             }
             _ => self.steps.push(Step::Got(bytes))?,
@@ -330,7 +358,12 @@ impl Row {
             status: 0,
             flags: 0,
         };
-        request(self.alloc, &self.head, fields, &names.bytes(self.alloc, body)?)
+        request(
+            self.alloc,
+            &self.head,
+            fields,
+            &names.bytes(self.alloc, body)?,
+        )
     }
 
     /// The frame of a reply: `COMMAND ID STATUS BODY`.
@@ -344,7 +377,12 @@ impl Row {
             status: hex32(status)?,
             flags: REPLY,
         };
-        reply(self.alloc, &self.head, fields, &names.bytes(self.alloc, body)?)
+        reply(
+            self.alloc,
+            &self.head,
+            fields,
+            &names.bytes(self.alloc, body)?,
+        )
     }
 
     /// The frame of an interim reply: `COMMAND ID BODY`, with the status PENDING.
@@ -357,7 +395,12 @@ impl Row {
             status: 0x103,
             flags: INTERIM,
         };
-        reply(self.alloc, &self.head, fields, &names.bytes(self.alloc, body)?)
+        reply(
+            self.alloc,
+            &self.head,
+            fields,
+            &names.bytes(self.alloc, body)?,
+        )
     }
 
     /// Changes bytes of what comes: `NUMBER OFFSET BYTES`, the number from 1 on.
@@ -388,6 +431,7 @@ impl Row {
                 self.wanted.text.push(b'\n')?;
             }
             "status" => self.wanted.status = Some(number(rest)?),
+            "connects" => self.wanted.connects = Some(number(rest)?),
             "sent" => self.wanted.sent = Some(commands(self.alloc, rest)?),
             "frame" => {
                 let (which, bytes) = cut(rest);
@@ -414,7 +458,9 @@ impl Row {
         let body = hex::encode_upper(self.alloc, names.bytes(self.alloc, body)?)?;
         let body = body.as_str();
         let line = format!(in self.alloc; "request {command} {charge} {tree} {session} {body}\n")?;
-        self.wanted.text.extend_from_slice(line.as_str().as_bytes())?;
+        self.wanted
+            .text
+            .extend_from_slice(line.as_str().as_bytes())?;
         Ok(())
     }
 }
@@ -425,8 +471,14 @@ fn share_of(rest: &str) -> Result<Side> {
     let (bytes, rest) = cut(rest);
     let (credits, rest) = cut(rest);
     let (many, rest) = cut(rest);
-    ensure!(room == "room" && credits == "credits", "no room or no credits");
-    ensure!(rest.is_empty() || rest == "fold", "{rest:?} is no way to fold names");
+    ensure!(
+        room == "room" && credits == "credits",
+        "no room or no credits"
+    );
+    ensure!(
+        rest.is_empty() || rest == "fold",
+        "{rest:?} is no way to fold names"
+    );
     Ok(Side::Share(number(bytes)?, rest == "fold", small(many)?))
 }
 

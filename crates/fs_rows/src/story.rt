@@ -77,7 +77,10 @@ fn tell_mark(alloc: Global, mark: &Mark, out: &mut Vec<u8>) -> Result<()> {
         }
         Mark::For(line, first, many) => {
             let first = first.0;
-            put(out, format!(in alloc; "for {line} {first} {many}\n")?.as_str())
+            put(
+                out,
+                format!(in alloc; "for {line} {first} {many}\n")?.as_str(),
+            )
         }
         Mark::Answer(line, _) => put(out, format!(in alloc; "answer {line}\n")?.as_str()),
         Mark::Now(time) => put(out, format!(in alloc; "now {time}\n")?.as_str()),
@@ -104,6 +107,17 @@ pub fn marks(events: &[Event], line: u64) -> u64 {
             if *number == line {
                 count = count.saturating_add(1);
             }
+        }
+    }
+    count
+}
+
+/// How many connects were tried.
+pub fn connects(events: &[Event]) -> u64 {
+    let mut count: u64 = 0;
+    for event in events {
+        if let Event::Joined | Event::NotJoined = event {
+            count = count.saturating_add(1);
         }
     }
     count
