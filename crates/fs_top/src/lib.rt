@@ -2,15 +2,11 @@
 #![tactic(auto)]
 
 mod ahead;
-#[cfg(test)]
-mod ahead_tests;
 mod stat;
 mod client;
 mod ending;
 mod listen;
 mod mount;
-#[cfg(test)]
-mod peer_tests;
 mod ping;
 mod print;
 mod request;
@@ -18,8 +14,6 @@ mod run;
 mod run_end;
 #[cfg(test)]
 mod run_end_tests;
-#[cfg(test)]
-mod run_tests;
 #[cfg(test)]
 mod tests;
 mod top;

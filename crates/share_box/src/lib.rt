@@ -10,13 +10,7 @@ mod sending;
 mod serving;
 mod state;
 #[cfg(test)]
-mod test_box;
-#[cfg(test)]
-mod test_frames;
-#[cfg(test)]
 mod tests;
-#[cfg(test)]
-mod turn_tests;
 mod turns;
 mod waiting;
 

@@ -1,4 +1,4 @@
-//! Mounts over replies that the writers make, the requests byte by byte, and each refusal.
+//! Two mounts over replies that the writers make, and the requests byte by byte. The rows of fs_rows are the other mounts.
 
 ghost use Rattle.std.specs.Prelude.{◌≡◌, ◌≤◌, IsOk, length};
 ghost use Rattle.smb_head.specs.Header.{head_of};
@@ -10,7 +10,6 @@ use smb_body_a::{
     write_session_setup_reply, write_tree_connect_reply,
 };
 use smb_body_c::{ErrorReply, write_error_reply};
-use smb_field::BodyFault;
 use smb_head::{Head, Route, read_head, write_head};
 use smb_le::{HeadFlags, ServerCaps};
 use std::alloc::AllocGlobal;
@@ -33,8 +32,6 @@ const MORE: u32 = 0xC000_0016;
 
 const DENIED: u32 = 0xC000_0022;
 
-const BAD_NAME: u32 = 0xC000_00CC;
-
 /// The body of a reply.
 #[derive(Clone, Copy, Debug)]
 enum Body {
@@ -46,10 +43,6 @@ enum Body {
     Tree(u8),
     /// An error reply.
     Error,
-    /// No byte.
-    Nothing,
-    /// Zero bytes, as many as a fixed part may have, of which the structure size is another.
-    Other,
 }
 
 /// A reply: its status, session, route and body.
@@ -95,11 +88,6 @@ fn write_body(out: &mut Vec<u8>, body: Body) -> Result<(), smb_base::NoMemory> {
                 bytes: &[],
             },
         ),
-        Body::Nothing => Ok(()),
-        Body::Other => {
-            out.extend_from_slice(&[0; 72])?;
-            Ok(())
-        }
     }
 }
 
@@ -179,101 +167,12 @@ fn facts(tree: u32) -> Facts {
 }
 
 #[test]
-fn a_share_is_mounted_or_refused_for_the_first_reason(rt: HostRuntime) -> Result<(), Fail> {
-    let at = Route::Sync(0);
+fn a_share_is_mounted_at_once_or_refused(rt: HostRuntime) -> Result<(), Fail> {
     let rows: &[([Reply; 4], Result<Facts, MountFault>)] = &[
-        // after a challenge, and at once
-        ([GREETED, CHALLENGED, ANONYMOUS, DISK], Ok(facts(TREE))),
         ([GREETED, GUEST, REFUSED, DISK], Ok(facts(TREE))),
-        // of a route out of turn no tree is known
         (
-            [
-                GREETED,
-                GUEST,
-                REFUSED,
-                (0, 0, Route::Async(5), Body::Tree(1)),
-            ],
-            Ok(facts(0)),
-        ),
-        // NEGOTIATE
-        ([REFUSED, GUEST, GUEST, DISK], Err(MountFault::Dialect(0))),
-        (
-            [
-                (0, 0, at, Body::Negotiate(3, 0x0202, 7)),
-                GUEST,
-                GUEST,
-                DISK,
-            ],
-            Err(MountFault::Dialect(0x0202)),
-        ),
-        (
-            [
-                (0, 0, at, Body::Negotiate(3, 0x0210, 7)),
-                GUEST,
-                GUEST,
-                DISK,
-            ],
-            Err(MountFault::SigningRequired),
-        ),
-        // the first SESSION_SETUP
-        (
-            [GREETED, REFUSED, GUEST, DISK],
-            Err(MountFault::Session(Status(DENIED))),
-        ),
-        (
-            [GREETED, (0, FIRST, at, Body::Session(4)), GUEST, DISK],
-            Err(MountFault::NotGuest),
-        ),
-        // the second one
-        (
-            [GREETED, CHALLENGED, REFUSED, DISK],
-            Err(MountFault::Session(Status(DENIED))),
-        ),
-        (
-            [GREETED, CHALLENGED, (MORE, FIRST, at, Body::Error), DISK],
-            Err(MountFault::Session(Status(MORE))),
-        ),
-        (
-            [GREETED, CHALLENGED, CHALLENGED, DISK],
-            Err(MountFault::Session(Status(MORE))),
-        ),
-        (
-            [GREETED, CHALLENGED, (0, FIRST, at, Body::Session(0)), DISK],
-            Err(MountFault::NotGuest),
-        ),
-        // TREE_CONNECT
-        (
-            [GREETED, GUEST, GUEST, (BAD_NAME, FIRST, at, Body::Error)],
-            Err(MountFault::Tree(Status(BAD_NAME))),
-        ),
-        (
-            [GREETED, GUEST, GUEST, (0, FIRST, at, Body::Tree(2))],
-            Err(MountFault::NotDisk(2)),
-        ),
-        // a malformed body, before any refusal
-        (
-            [(DENIED, 0, at, Body::Nothing), GUEST, GUEST, DISK],
-            Err(MountFault::Malformed(BodyFault::Short)),
-        ),
-        (
-            [GREETED, (DENIED, 0, at, Body::Other), GUEST, DISK],
-            Err(MountFault::Malformed(BodyFault::Size)),
-        ),
-        (
-            [GREETED, (MORE, FIRST, at, Body::Nothing), ANONYMOUS, DISK],
-            Err(MountFault::Malformed(BodyFault::Short)),
-        ),
-        (
-            [GREETED, CHALLENGED, (0, FIRST, at, Body::Other), DISK],
-            Err(MountFault::Malformed(BodyFault::Size)),
-        ),
-        (
-            [GREETED, CHALLENGED, (MORE, FIRST, at, Body::Other), DISK],
-            Err(MountFault::Malformed(BodyFault::Size)),
-        ),
-        (
-            [GREETED, GUEST, GUEST, (0, FIRST, at, Body::Error)],
-            Err(MountFault::Malformed(BodyFault::Short)),
+            [GREETED, GUEST, GUEST, REFUSED],
+            Err(MountFault::Tree(Status(DENIED))),
         ),
     ];
     for (row, (replies, want)) in rows.iter().enumerate() {
@@ -326,47 +225,38 @@ fn is_request(rt: &impl Abort, request: &Request, head: (u16, u16, u32, u64), bo
 
 #[test]
 fn each_state_makes_its_request(rt: HostRuntime) -> Result<(), Fail> {
-    // the capabilities, and what a request costs then
-    for (caps, charge) in [(7, 1), (4, 1), (3, 0), (0, 0)] {
-        let new = New::new(CLIENT, path(&rt), PREVIOUS);
-        is_request(&rt, &new.request(rt.alloc())?, (0, 0, 0, 0), &NEGOTIATE);
+    let new = New::new(CLIENT, path(&rt), PREVIOUS);
+    is_request(&rt, &new.request(rt.alloc())?, (0, 0, 0, 0), &NEGOTIATE);
 
-        let greeted = (
-            0,
-            FIRST,
-            Route::Sync(TREE),
-            Body::Negotiate(0, 0x0210, caps),
-        );
-        let negotiated = new.reply(&message(&rt, greeted))?;
-        is_request(
-            &rt,
-            &negotiated.request(rt.alloc())?,
-            (1, charge, 0, 0),
-            &SESSION_SETUP_FIRST,
-        );
+    let negotiated = new.reply(&message(&rt, GREETED))?;
+    is_request(
+        &rt,
+        &negotiated.request(rt.alloc())?,
+        (1, 1, 0, 0),
+        &SESSION_SETUP_FIRST,
+    );
 
-        let SetUp::Challenged(challenged) = negotiated.reply(&message(&rt, CHALLENGED))? else {
-            return Err(Fail::from("a challenge"));
-        };
-        is_request(
-            &rt,
-            &challenged.request(rt.alloc())?,
-            (1, charge, 0, FIRST),
-            &SESSION_SETUP_SECOND,
-        );
+    let SetUp::Challenged(challenged) = negotiated.reply(&message(&rt, CHALLENGED))? else {
+        return Err(Fail::from("a challenge"));
+    };
+    is_request(
+        &rt,
+        &challenged.request(rt.alloc())?,
+        (1, 1, 0, FIRST),
+        &SESSION_SETUP_SECOND,
+    );
 
-        let authenticated = challenged.reply(&message(&rt, ANONYMOUS))?;
-        is_request(
-            &rt,
-            &authenticated.request(rt.alloc())?,
-            (3, charge, 0, FIRST),
-            &TREE_CONNECT,
-        );
+    let authenticated = challenged.reply(&message(&rt, ANONYMOUS))?;
+    is_request(
+        &rt,
+        &authenticated.request(rt.alloc())?,
+        (3, 1, 0, FIRST),
+        &TREE_CONNECT,
+    );
 
-        let mounted = authenticated.reply(&message(&rt, DISK))?;
-        let requests = mounted.leave(rt.alloc())?;
-        is_request(&rt, &requests[0], (4, charge, TREE, FIRST), &EMPTY);
-        is_request(&rt, &requests[1], (2, charge, 0, FIRST), &EMPTY);
-    }
+    let mounted = authenticated.reply(&message(&rt, DISK))?;
+    let requests = mounted.leave(rt.alloc())?;
+    is_request(&rt, &requests[0], (4, 1, TREE, FIRST), &EMPTY);
+    is_request(&rt, &requests[1], (2, 1, 0, FIRST), &EMPTY);
     Ok(())
 }
