@@ -94,9 +94,9 @@ fn connect(alloc: Global, state: Authenticated, reply: &[u8], told: &mut Told) -
 /// Tells the requests that end a mount, and what is known of it.
 fn leave(alloc: Global, state: Mounted, told: &mut Told) -> Result<()> {
     let facts = state.facts();
-    let [first, second] = state.leave(alloc)?;
-    tell_request(alloc, &first, told)?;
-    tell_request(alloc, &second, told)?;
+    let requests = state.leave(alloc)?;
+    tell_request(alloc, &requests[0], told)?;
+    tell_request(alloc, &requests[1], told)?;
     let (session, tree, caps) = (facts.session, facts.tree, facts.caps.0);
     let line = format!(in alloc; "session {session:X} tree {tree:X} caps {caps}\n")?;
     put(&mut told.text, line.as_str())?;
