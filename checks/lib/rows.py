@@ -127,10 +127,12 @@ def read():
         if word == "bytes":
             name, _, pieces = rest.partition(" ")
             names[name] = names.bytes(pieces)
+        elif word == "more":
+            names[name] += names.bytes(rest)
         elif word == "row":
-            name, _, other = rest.partition(" as ")
-            rows.append(Row(name))
-            givens[name] = []
+            row, _, other = rest.partition(" as ")
+            rows.append(Row(row))
+            givens[row] = []
             for again in givens[other] if other else []:
                 rows[-1].given(*again, names)
         elif word in EXPECTED:

@@ -47,7 +47,8 @@ impl Book {
         }
     }
 
-    /// Takes the next line. An empty one, and one that begins with `#`, say nothing; `bytes NAME BYTES` gives bytes a name;
+    /// Takes the next line. An empty one, and one that begins with `#`, say nothing; `bytes NAME BYTES` gives bytes a name, and
+    /// `more BYTES` adds to those of the last name;
     /// `row NAME` and `row NAME as OTHER` begin a row; any other is of the row before it.
     pub fn add(&mut self, alloc: Global, line: String) -> Result<()> {
         let at = self.lines.len();
@@ -58,6 +59,10 @@ impl Book {
                 let (name, bytes) = cut(rest);
                 let bytes = self.names.bytes(alloc, bytes)?;
                 self.names.add(alloc, name, bytes)?;
+            }
+            "more" => {
+                let bytes = self.names.bytes(alloc, rest)?;
+                self.names.add_more(&bytes)?;
             }
             _ => {
                 if !is_empty(line.as_str()) {

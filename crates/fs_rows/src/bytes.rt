@@ -46,6 +46,15 @@ impl Names {
         Ok(())
     }
 
+    /// Adds bytes to those of the last name.
+    pub fn add_more(&mut self, bytes: &[u8]) -> Result<()> {
+        match self.held.last_mut() {
+            Some(named) => named.bytes.extend_from_slice(bytes)?,
+            None => bail!("no name before it"),
+        }
+        Ok(())
+    }
+
     /// The bytes that these words stand for.
     pub fn bytes(&self, alloc: Global, words: &str) -> Result<Vec<u8>> {
         let mut out = Vec::new(alloc);
