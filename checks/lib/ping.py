@@ -10,51 +10,23 @@ import threading
 import time
 
 import peers
-from smb import error, frame, message
+from smb import frame, message
 
 PROGRAM = sys.argv[1]
 GUID = bytes(range(0xF0, 0x100))
 
 
-def reply(size=65, dialect=0x0210, caps=6, transact=1048576, read=524288, write=262144, offset=128, length=0, buffer=b""):
-    return struct.pack("<HHHH16sIIIIQQHHI", size, 1, dialect, 0, GUID, caps, transact, read, write, 0, 0, offset, length, 0) + buffer
-
-
-def bad(kind):
-    return 5, f"fault 5 frame 1 {kind}\n"
+def reply(length=0, buffer=b""):
+    return struct.pack("<HHHH16sIIIIQQHHI", 65, 1, 0x0210, 0, GUID, 6, 1048576, 524288, 262144, 0, 0, 128, length, 0) + buffer
 
 
 GOOD = 0, f"smb 0x0210 caps 6 transact 1048576 read 524288 write 262144 guid {GUID.hex()}\n"
 
+# other answers are rows, which checks/run plays
 CASES = [
     ("a reply", frame(message(body=reply())), GOOD),
     ("a reply with a token", frame(message(body=reply(length=5, buffer=b"token"))), GOOD),
-    ("bytes behind the reply", frame(message(body=reply())) + b"\xee" * 9, GOOD),
-    ("an empty buffer anywhere", frame(message(body=reply(offset=9))), GOOD),
-    ("greatest numbers", frame(message(body=reply(caps=2**32 - 1, transact=2**32 - 1, read=0, write=1))),
-     (0, f"smb 0x0210 caps 4294967295 transact 4294967295 read 0 write 1 guid {GUID.hex()}\n")),
-    ("dialect 0x0202", frame(message(body=reply(dialect=0x0202))), (4, "fault 4 mount dialect 0x0202\n")),
-    ("dialect 0xABCD", frame(message(body=reply(dialect=0xABCD))), (4, "fault 4 mount dialect 0xABCD\n")),
-    ("another status", frame(message(status=0xC00000BB, body=error())), (4, "fault 4 mount dialect 0x0000\n")),
-    ("another status and its body", frame(message(status=0xC00000BB, body=reply())), bad("body")),
-    ("first byte 01", frame(message(body=reply()), first=1), bad("length")),
-    ("length 1,114,113", frame(b"", length=1114113), bad("length")),
-    ("63 bytes", frame(message(body=reply())[:63]), bad("head")),
-    ("a wrong magic", frame(message(magic=b"\xffSMB", body=reply())), bad("head")),
-    ("header size 63", frame(message(size=63, body=reply())), bad("head")),
-    ("NextCommand 60", frame(message(nxt=60, body=reply())), bad("chain")),
-    ("NextCommand 68", frame(message(nxt=68, body=reply()) + bytes(72)), bad("chain")),
-    ("two replies", frame(message(nxt=128, body=reply()) + message(body=reply())), bad("stranger")),
-    ("a second message with no header", frame(message(nxt=128, body=reply()) + bytes(64)), bad("head")),
-    ("id 77", frame(message(mid=77, body=reply())), bad("stranger")),
-    ("command 5", frame(message(command=5, body=reply())), bad("body")),
-    ("no reply flag", frame(message(flags=0, body=reply())), bad("body")),
-    ("body size 64", frame(message(body=reply(size=64))), bad("body")),
-    ("a buffer outside", frame(message(body=reply(length=1))), bad("body")),
-    ("a buffer in the fixed part", frame(message(body=reply(offset=127, length=1))), bad("body")),
-    ("two faults, id and command", frame(message(mid=77, command=5, body=reply())), bad("stranger")),
     ("the end in mid-frame", frame(message(body=reply()))[:100], (6, "fault 6 cuts 1\n")),
-    ("the end at once", b"", (6, "fault 6 cuts 1\n")),
 ]
 
 HEAD = bytes.fromhex("00000066fe534d4240000000000000000000200000000000000000000000000000000000"
@@ -132,10 +104,7 @@ if len(seeds) != 2 * len(CASES):
 expect("a closed port", ping(peers.free_port()), (6, "fault 6 connects 1\n"))
 peers.say("ping", f"{2 * len(CASES)} answers of a small responder, and a closed port")
 
-WORDS = [[], [b"ping"], [b"ping", b"127.0.0.1"], [b"ping", b"127.0.0.1", b"1", b"2"], [b"Ping", b"127.0.0.1", b"1"],
-         [b"ping", b"-h", b"1"], [b"ping", b"", b"1"], [b"ping", b"127.0.0.1", b"0"], [b"ping", b"127.0.0.1", b"65536"],
-         [b"ping", b"127.0.0.1", b"01"], [b"ping", b"127.0.0.1", b"+1"], [b"ping", b"127.0.0.1", b"1 "], [b"ping", b"a" * 256, b"1"],
-         [b"ping", b"\xff", b"1"], [b"ping", b"127.0.0.1", b"1", b"\xff"], [b"run"]]
+WORDS = [[], [b"Ping", b"127.0.0.1", b"1"], [b"ping", b"\xff", b"1"], [b"ping", b"127.0.0.1", b"1", b"\xff"]]
 for words in WORDS:
     expect(f"the words {words}", run(words), (1, "fault 1 words\n"))
 peers.say("ping", f"{len(WORDS)} lists of other words")

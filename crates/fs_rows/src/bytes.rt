@@ -1,5 +1,7 @@
 //! Bytes in words: hex digits, digits that are repeated, and bytes that have a name.
 
+ghost use Rattle.std.specs.Prelude.{◌≡◌, IfOk, MatchOption, take};
+
 use crate::words::count;
 use anyhow::{Context, Result, bail, ensure};
 use std::alloc::Global;
@@ -87,7 +89,9 @@ impl Names {
 }
 
 /// The first bytes, so many, or all.
-fn front_of(bytes: &[u8], front: Option<usize>) -> Result<&[u8]> {
+fn front_of(bytes: &[u8], front: Option<usize>) -> Result<&[u8]>
+    ensures { IfOk result (λ r. MatchOption front (r.now ≡ bytes.now) (λ many. r.now ≡ take many bytes.now)) }
+{
     match front {
         Some(many) => match bytes.get(..many) {
             Some(bytes) => Ok(bytes),

@@ -1,5 +1,7 @@
 //! Frames of messages (MS-SMB2 2.1 and 2.2.1.2).
 
+ghost use Rattle.std.specs.Prelude.{◌≡◌, IfOk, drop};
+
 use anyhow::{Context, Result, bail, ensure};
 use std::alloc::Global;
 
@@ -26,7 +28,9 @@ pub struct Fields {
 }
 
 /// A row's header: 64 bytes.
-pub fn head_of(bytes: &[u8]) -> Result<Head> {
+pub fn head_of(bytes: &[u8]) -> Result<Head>
+    ensures { IfOk result (λ head. head ≡ bytes.now) }
+{
     ensure!(
         bytes.len() == 64,
         "a header of {} bytes, and not of 64",
@@ -73,7 +77,9 @@ fn frame(alloc: Global, head: &Head, body: &[u8]) -> Result<Vec<u8>> {
 }
 
 /// The message of a frame.
-pub fn message_of(frame: &[u8]) -> Result<&[u8]> {
+pub fn message_of(frame: &[u8]) -> Result<&[u8]>
+    ensures { IfOk result (λ message. message.now ≡ drop 4 frame.now) }
+{
     match frame.get(4..) {
         Some(message) => Ok(message),
         None => bail!("a frame without the bytes of its length"),

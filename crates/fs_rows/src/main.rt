@@ -5,6 +5,8 @@
 //! does not come out, once all were played.
 #![tactic(auto)]
 
+ghost use Rattle.std.specs.Prelude.{◌≡◌, ◌↔◌, IsTrue};
+
 mod book;
 mod bytes;
 mod frames;
@@ -75,7 +77,7 @@ fn once(rt: &(impl Print + AllocGlobal), book: &Book, number: usize, size: usize
     let name = book.name(number);
     let want = wanted(alloc, &row.wanted)?;
     let got = found(alloc, row, size).context(format_args!("row {name}"))?;
-    if want.as_slice() == got.as_slice() {
+    if is_same(&want, &got) {
         return Ok(true);
     }
     println!(rt; "row {name} in pieces of {size}: wanted")?;
@@ -83,6 +85,13 @@ fn once(rt: &(impl Print + AllocGlobal), book: &Book, number: usize, size: usize
     println!(rt; "row {name} in pieces of {size}: found")?;
     show(rt, &got)?;
     Ok(false)
+}
+
+/// Whether what was found is what was wanted, byte by byte.
+fn is_same(want: &[u8], got: &[u8]) -> bool
+    ensures { IsTrue result ↔ (want.now ≡ got.now) }
+{
+    want == got
 }
 
 /// Prints a text, or in hex what is none.

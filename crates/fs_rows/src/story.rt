@@ -1,5 +1,7 @@
 //! The story of a link in words.
 
+ghost use Rattle.std.specs.Prelude.{◌≡◌, ◌++◌, OnOk};
+
 use anyhow::Result;
 use smb_link::{Event, Mark};
 use std::alloc::Global;
@@ -30,7 +32,9 @@ pub fn tell(alloc: Global, events: &[Event], out: &mut Vec<u8>) -> Result<()> {
 }
 
 /// Adds a text.
-pub fn put(out: &mut Vec<u8>, text: &str) -> Result<()> {
+pub fn put(out: &mut Vec<u8>, text: &str) -> Result<()>
+    ensures { OnOk result (out.new.items ≡ out.old.items ++ text.now) }
+{
     out.extend_from_slice(text.as_bytes())?;
     Ok(())
 }

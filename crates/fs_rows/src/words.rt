@@ -1,5 +1,7 @@
 //! The words of a line.
 
+ghost use Rattle.std.specs.Prelude.{◌≡◌, ◌↔◌, IsOk, length};
+
 use anyhow::{Context, Result, ensure};
 
 /// The first word of a line, and what follows the space behind it.
@@ -57,7 +59,9 @@ pub fn hex64(word: &str) -> Result<u64> {
 }
 
 /// That nothing follows.
-pub fn nothing(rest: &str) -> Result<()> {
+pub fn nothing(rest: &str) -> Result<()>
+    ensures { IsOk result ↔ (length rest.now ≡ 0) }
+{
     ensure!(rest.is_empty(), "{rest:?} is one word too many");
     Ok(())
 }
