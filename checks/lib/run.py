@@ -83,5 +83,17 @@ if os.path.exists("/dev/full"):
         fault(f"an output that is full: {found}")
     peers.say("run", "an output that is full")
 
+ROWS = os.path.join(os.path.dirname(rows.FILE), "out", "fs_rows")
+# the lines of a bad row, and the number of the line that is wrong
+BAD = [("word", 1), ("row a\nstrange", 2), ("row a\nwords ping\n\nstatus +1", 4), ("row", 1), ("row a\nrow a", 2), ("row a as b", 1),
+       ("bytes b 0", 1), ("row a\ngot $b", 2), ("row a\nturns serve*x", 2), ("row a\nact 1 fly a", 2), ("row a\nhead 00", 2),
+       ("row a\npeer\ngot 00000001 00\npatch 1 1 00", 4), ("row a\nbox room 1", 2), ("row a\nquiet 1 2", 2)]
+if os.path.exists(ROWS):
+    for text, number in BAD:
+        done = subprocess.run([ROWS], input=text.encode(), capture_output=True, timeout=60)
+        if (done.returncode, done.stdout) != (1, b"") or f"line {number}".encode() not in done.stderr:
+            fault(f"the row {text!r}: {done}")
+    peers.say("run", f"{len(BAD)} malformed rows")
+
 peers.say("run", "failed" if failed else "all as it should be")
 sys.exit(1 if failed else 0)

@@ -123,21 +123,34 @@ fn take_step(alloc: Global, link: &mut BoxLink, step: &Step, size: usize) -> Res
 
 /// Receives bytes, so many at most at a time, until a frame is whole or nothing comes.
 fn receive(alloc: Global, link: &mut BoxLink, size: usize) -> Result<()> {
-    let mut buffer = vec![in alloc; 0u8; size.max(1)]?;
     let mut bytes = Vec::new(alloc);
     for _ in 0..RECEIVES {
-        match link.receive(&mut buffer) {
-            Got::Bytes(count) => put_front(&buffer, count, &mut bytes)?,
-            Got::Quiet | Got::Closed => return Ok(()),
-            Got::NoMemory => bail!("out of memory"),
-        }
-        if is_whole(&bytes) {
+        if !receive_once(alloc, link, size, &mut bytes)? || is_whole(&bytes) {
             return Ok(());
         }
     }
     bail!("a frame that does not end")
 }
 
+/// Receives bytes once, so many at most, and adds them. It answers `false` where nothing comes.
+fn receive_once(
+    alloc: Global,
+    link: &mut BoxLink,
+    size: usize,
+    bytes: &mut Vec<u8>,
+) -> Result<bool> {
+    let mut buffer = vec![in alloc; 0u8; size.max(1)]?;
+    match link.receive(&mut buffer) {
+        Got::Bytes(count) => {
+            put_front(&buffer, count, bytes)?;
+            Ok(true)
+        }
+        Got::Quiet | Got::Closed => Ok(false),
+        Got::NoMemory => bail!("out of memory"),
+    }
+}
+
+/// Adds the bytes at the front of the buffer.
 fn put_front(buffer: &[u8], count: usize, bytes: &mut Vec<u8>) -> Result<()> {
     match buffer.get(..count) {
         Some(front) => bytes.extend_from_slice(front)?,
