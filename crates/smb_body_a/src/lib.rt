@@ -2,8 +2,6 @@
 //! that LOGOFF, TREE_DISCONNECT and ECHO share. Each is read from a whole message and written behind its header.
 #![tactic(auto)]
 
-#[cfg(test)]
-mod captured;
 mod empty;
 mod negotiate;
 mod session;

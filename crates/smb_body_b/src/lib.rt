@@ -2,8 +2,6 @@
 //! header.
 #![tactic(auto)]
 
-#[cfg(test)]
-mod captured;
 mod close;
 mod contexts;
 mod create;

@@ -2,8 +2,6 @@
 //! refused. Each is read from a whole message and written behind its header.
 #![tactic(auto)]
 
-#[cfg(test)]
-mod captured;
 mod directory;
 mod error;
 mod info;

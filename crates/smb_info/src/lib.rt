@@ -3,8 +3,6 @@
 #![tactic(auto)]
 
 mod attributes;
-#[cfg(test)]
-mod captured;
 mod change;
 mod entries;
 mod fault;
