@@ -35,7 +35,9 @@ def is_clause(contract, clause):
 
 def is_defined(word):
     """Whether some crate defines the word, in specs/ or as a type or one of its cases."""
-    head = re.compile(rf"(?m)^\s*(?:(?:pub|abbrev|unfoldable|record|data|rec|ghost)\s+)*{word}\b(?=[^\n]*[:=])|^\s*(?:pub\s+)?(?:struct|enum|trait)?\s*{word}\b\s*[({{,]")
+    specified = rf"^\s*(?:(?:pub|abbrev|unfoldable|record|data|rec|ghost)\s+)*{word}\b(?=[^\n]*[:=])"
+    declared = rf"^\s*(?:pub\s+)?(?:struct|enum|trait)?\s*{word}\b\s*[({{,]"
+    head = re.compile(rf"(?m){specified}|{declared}")
     return any(head.search(text) for crate in LISTED for text in texts(crate, "specs", ".antt") + texts(crate, "src", ".rt"))
 
 
@@ -68,10 +70,11 @@ def clauses_of(part):
 
 
 def judge(crate, line):
-    """One line `By ..`: its functions, clauses and definitions, and its edits."""
+    """One line `By ..`: its functions, clauses and definitions, and its edits, which are counted."""
     told, _, guards = line.partition("; ")
-    functions, comma, rest = re.match(r"By (.*?), ((?:its one )?clauses?)(.*)", told, re.S).groups() if "clause" in told else (told, "", "")
-    clauses, names = clauses_of(comma + rest), WORD.findall(functions)
+    parts = re.match(r"By (.*?), ((?:its one )?clauses?)(.*)", told)
+    functions, kind, rest = parts.groups() if parts else (told, "", "")
+    clauses, names = clauses_of(kind + rest), WORD.findall(functions)
     if not names or not clauses or not guards:
         faults.append(f"{crate}: not to be read: {line}")
     for name in names:
@@ -91,7 +94,7 @@ def judge(crate, line):
 
 
 crate, line, claims, edits = None, None, 0, 0
-for text in open("docs/CLAIMS.md"):
+for number, text in enumerate(open("docs/CLAIMS.md"), 1):
     if text.startswith("## "):
         crate = text[3:].strip()
         if crate not in LISTED:
@@ -99,7 +102,9 @@ for text in open("docs/CLAIMS.md"):
     text = text.strip()
     line = f"{line} {text}" if line else text if text.startswith("By ") else None
     if line and line.endswith("."):
+        before = len(faults)
         claims, edits, line = claims + 1, edits + judge(crate, line), None
+        faults[before:] = [f"docs/CLAIMS.md:{number}: {fault}" for fault in faults[before:]]
 for fault in faults:
     peers.say(CHECK, fault)
 peers.say(CHECK, "failed" if faults else f"{claims} claims with {edits} edits, each as it stands")
