@@ -1,4 +1,4 @@
-"""docs/CLAIMS.md against the repository. A claim ends with `By FUNCTIONS, CLAUSES (DEFINITIONS); EDITS.`, under the heading of its crate."""
+"""docs/CLAIMS.md against the repository. Under the heading of its crate a claim ends with `By FUNCTIONS, CLAUSES (DEFINITIONS); EDITS.`"""
 import pathlib
 import re
 import sys

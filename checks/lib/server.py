@@ -22,7 +22,8 @@ def information(directory, size, read_only, links, number):
 
 class Server:
     """Serves one connection. `tricks` gives another status and body for a command; `before` gives messages that come before its reply,
-    `behind` bytes that come behind it. `commands` are those that came, `rest` what came behind the last whole frame, and `faults` what is wrong with the requests."""
+    `behind` bytes that come behind it. `commands` are those that came, `rest` what came behind the last whole frame, and `faults` what
+    is wrong with the requests."""
 
     def __init__(self, tricks={}, before={}, behind={}, dribble=False, lost_at=None, dumb_at=None):
         self.tricks, self.before, self.behind = tricks, before, behind
