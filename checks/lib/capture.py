@@ -148,7 +148,7 @@ def main():
             print(done.stdout, done.stderr)
         own_ports, python = [], with_impacket()
         if python is None:
-            peers.say(CHECK, "no impacket: smbclient's messages alone")
+            peers.say(CHECK, "impacket's part is skipped, no impacket: smbclient's messages alone")
         else:
             breaker = peers.smbclient(server.port, f"get a {folder}/again", folder)
             done = subprocess.run([python, os.path.join(HERE, "capture_client.py"), str(server.port), "share", *breaker],

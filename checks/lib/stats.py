@@ -290,7 +290,7 @@ def main(folder):
         fill(samba.share)
         marked = ()
         if not shutil.which("smbclient") or not keeps_attributes(samba.share):
-            peers.say(CHECK, "no read-only mark of smbclient's: it is missing, or the file system has no extended attributes")
+            peers.say(CHECK, "the read-only mark's part is skipped, no smbclient, or no extended attributes in the file system")
         else:
             for name in ("marked", "marked-directory"):
                 if os.geteuid() == 0:
@@ -311,7 +311,7 @@ def main(folder):
             number = judge_capture(done, folder)
             tell(f"{' '.join(peers.version('tshark', '--version').split()[:3])}: {number} requests and as many replies, none malformed")
         else:
-            peers.say(CHECK, "the capture is left out, no tshark, or it may not capture")
+            peers.say(CHECK, "tshark's part is skipped, there is none, or it may not capture")
         for share, script, want in [("none", "0 stat /\n", (4, "fault 4 mount tree C00000CC\n", "")),
                                     ("share", f"# a path of 256 bytes\n0 stat /{255 * 'n'}\n", (2, "fault 2 line 2\n", ""))]:
             said = run(samba.port, share, script)
@@ -321,7 +321,7 @@ def main(folder):
             one = done.replies[len(smb.MOUNT) + 3 * list(THERE).index("/one") + 1]
             race(samba, answer(*information(one)))
         else:
-            peers.say(CHECK, "the times are left out, no smbclient")
+            peers.say(CHECK, "the times' part is skipped, no smbclient")
     finally:
         if os.path.exists(os.path.join(samba.share, "closed")):
             os.chmod(os.path.join(samba.share, "closed"), 0o700)
