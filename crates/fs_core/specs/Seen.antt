@@ -1,4 +1,4 @@
--- What a reply says.
+-- What the client's reader of replies gives, beside what a reply says, and which faults it has.
 use Rattle.std.specs.Prelude.{◌≡◌, ℕ, ◌==◌, Bool, ◌&&◌, ◌||◌, List, slice_index, Option, Some, None, Result, Ok, Err}
 use Rattle.smb_le.specs.Numbers.{number_at}
 use Rattle.smb_head.specs.declared.command.TheConstants.{CREATE, CLOSE, QUERY_INFO}

@@ -1,4 +1,4 @@
--- What the steps of a call do.
+-- What each step leads to by which a reader of lines finds and gives the next one.
 use Rattle.std.specs.Prelude.{◌≡◌, ◌<◌, ◌≤◌, ◌++◌, ◌⊎◌, ℕ, List, [], length, Option, Some, None, Bool, true, false, IsUtf8}
 use Rattle.fs_lines.specs.declared.search.TheConstants.{MAX_LINE}
 use Rattle.fs_lines.specs.declared.next.NextLine.{NextLine}

@@ -1,4 +1,4 @@
--- What a run leaves behind on the share.
+-- The clean end: what a run leaves behind on the share.
 use Rattle.std.specs.Prelude.{◌≡◌, ℕ, ◌==◌, Bool, true, not, ◌||◌, List, [], ◌∷◌}
 use Rattle.std.specs.List.{list_all}
 use Rattle.share_spec.specs.declared.share.Share.{Share}

@@ -1,4 +1,4 @@
--- Turns that are to come.
+-- The turns of a box that are to come, as a list.
 use Rattle.std.specs.Prelude.{List, [], ◌∷◌, Option, Some, None}
 use Rattle.share_box.specs.declared.schedule.Turn.{Turn}
 

@@ -1,4 +1,4 @@
--- Replies.
+-- Replies of the share: one of a status alone, and what a reply shows of an open and its file.
 use Rattle.std.specs.Prelude.{ℕ, Bool, false, if◌then◌else◌, Option, Some, None}
 use Rattle.smb_base.specs.declared.names.Fid.{Fid}
 use Rattle.share_spec.specs.declared.request.Rep.{Rep}

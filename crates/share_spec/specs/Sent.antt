@@ -1,4 +1,4 @@
--- Messages that were sent and not taken.
+-- Messages that were sent on the connection and not taken by the share yet.
 use Rattle.std.specs.Prelude.{◌==◌, not, if◌then◌else◌, List, filter}
 use Rattle.smb_base.specs.declared.names.Mid.{Mid}
 use Rattle.share_spec.specs.declared.connection.LastCreate.{LastCreate}

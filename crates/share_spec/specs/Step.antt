@@ -1,4 +1,4 @@
--- One request and its reply.
+-- One request on the share: its reply, and the share after it.
 use Rattle.std.specs.Prelude.{Option}
 use Rattle.share_spec.specs.declared.connection.Grant.{Grant}
 use Rattle.share_spec.specs.declared.request.Who.{Who}
