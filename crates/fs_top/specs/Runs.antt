@@ -1,4 +1,4 @@
--- What the steps of a run lead to.
+-- The options of a run, the status of each of its ends, and what each of its steps leads to.
 use Rattle.std.specs.Prelude.{◌≡◌, ◌≤◌, ◌<◌, ◌+◌, ℕ, Bool, true, false, nat_le, ◌==◌, List, [], ◌∷◌, Option, Some, None, IfSome, Result, Ok, Err, get_or}
 use Rattle.std.specs.List.{list_all, list_any}
 use Rattle.smb_base.specs.declared.names.Fid.{Fid}

@@ -1,4 +1,4 @@
--- The program of each call.
+-- The program of each call: its requests, and what it answers.
 use Rattle.std.specs.Prelude.{ℕ, Bool, true, false, List}
 use Rattle.fs_types.specs.declared.call.Call.{Call}
 use Rattle.fs_types.specs.declared.call.Call.TheVariants as call
