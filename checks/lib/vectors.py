@@ -108,7 +108,7 @@ def compare(folder):
 def refusals(program):
     """That lines which are no vectors end the program with their number."""
     if not os.access(program, os.X_OK):
-        print(f"checks/vectors: {program} is not built: no line is tried")
+        print(f"checks/vectors: {program} is not built: its part is skipped")
         return False
     bad = 0
     for line in ("empty", "emty 00", "empty 0g", "empty 0", " empty 00", "from_wire_sfm 61", "to_wire_sfm ff", "empty 00 00"):
