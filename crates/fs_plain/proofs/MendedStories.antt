@@ -1,6 +1,6 @@
 -- Stories, each of which a looser reading of the rules would judge wrongly.
 use Rattle.std.proofs.Common.{◌≡◌, ℕ, true, false, [], ◌∷◌, ◌++◌, refl, None, Some, List, Option, Bool}
-use Rattle.std.specs.Prelude.{codes, take}
+use Rattle.std.specs.Prelude.{codes, take, drop, set}
 use Rattle.std.specs.Str.{chars}
 use Rattle.smb_base.specs.declared.names.Mid.{Mid}
 use Rattle.smb_base.specs.declared.names.Key.{Key}
@@ -11,6 +11,8 @@ use Rattle.fs_types.specs.declared.call.Call.TheVariants as call
 use Rattle.share_spec.specs.declared.request.Req.{Req}
 use Rattle.share_spec.specs.declared.request.Req.TheVariants as req
 use Rattle.share_spec.specs.declared.request.Rep.{Rep}
+use Rattle.share_spec.specs.declared.request.RepBody.{RepBody}
+use Rattle.share_spec.specs.declared.request.RepBody.TheVariants as body
 use Rattle.share_spec.specs.declared.share.Share.{Share}
 use Rattle.share_spec.specs.State.{Making}
 use Rattle.share_spec.specs.Reply.{fid_of, of_status}
@@ -32,6 +34,7 @@ use Rattle.fs_plain.specs.Taken.{after_request, is_right_request}
 use Rattle.fs_plain.specs.Answered.{odd}
 use Rattle.fs_plain.specs.Differences.{difference}
 use Rattle.fs_plain.specs.Divergence.{divergence}
+use Rattle.fs_plain.specs.Masked.{masked}
 use Rattle.fs_plain.proofs.Frames.{create_frame, both_frame, chain_frame, missing_chain_frame}
 use Rattle.fs_plain.proofs.HonestStory.{mid, run, story, options}
 
@@ -120,3 +123,18 @@ missing =
 refused_in_one_frame : divergence run made missing ≡ None
 unfolding chars components wire_request reply_in is_interim_of head_of head_at number_at first_of frames_in rest_in step_of parts_of read_of contexts_of set_of path.components path.after_part fault_of spelling
 refused_in_one_frame = refl
+
+-- a file of five bytes, read-only and of number 9, as the share tells it, and as FileStandardInformation can
+abbrev pub info : Bool → ℕ → Rep
+info read_only number = record { status = record { 0 = 0 }; body = body.Info false 5 read_only 1 false number }
+
+abbrev pub query : ℕ → List ℕ
+query class = set (drop 4 both_frame) 67 class
+
+standard_tells_less : masked (query 5) (info true 9) ≡ info false 0
+unfolding number_at
+standard_tells_less = refl
+
+all_tells_it_whole : masked (query 18) (info true 9) ≡ info true 9
+unfolding number_at
+all_tells_it_whole = refl

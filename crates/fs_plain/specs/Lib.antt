@@ -23,3 +23,4 @@ pub mod PlainTaken
 pub mod PlainAnswered
 pub mod Divergence
 pub mod Holders
+pub mod Masked
