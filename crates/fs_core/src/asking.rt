@@ -14,8 +14,8 @@ ghost use Rattle.smb_link.specs.Came.{seen_by, Came};
 ghost use Rattle.fs_core.specs.Course.{Does, tally_of, SentSo, RequestedSo, AskedSo, AnsweredSo, StopsUnread};
 
 use crate::exchange::await_reply;
-use crate::reply_kind::{Awaited, ReplyFault};
 use crate::read::{WireFault, read_reply};
+use crate::reply_kind::{Awaited, ReplyFault};
 use crate::wire::{Stop, Wire};
 use crate::write::{RequestPlace, framed, plain_message};
 use share_spec::Rep;

@@ -5,7 +5,7 @@ ghost use Rattle.smb_head.specs.Header.{head_of};
 ghost use Rattle.smb_chain.specs.Parts.{step_of};
 ghost use Rattle.fs_core.specs.Judged.{judged, seen_judged, seen_part, first_found, with_found, walked, GoesShorter, next_of, seen_next};
 
-use crate::reply_kind::{Awaited, ReplyFault, Look, look_at};
+use crate::reply_kind::{Awaited, Look, ReplyFault, look_at};
 use smb_chain::{BadNext, first_part};
 use smb_head::read_head;
 

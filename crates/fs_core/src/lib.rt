@@ -7,8 +7,8 @@ mod judge;
 mod listen;
 #[cfg(test)]
 mod listen_tests;
-mod reply_kind;
 mod read;
+mod reply_kind;
 #[cfg(test)]
 mod tests;
 mod wire;
@@ -18,7 +18,9 @@ pub use asking::{ask, send_request, take_reply};
 pub use exchange::await_reply;
 pub use judge::final_reply;
 pub use listen::{Heard, hear};
-pub use reply_kind::{Awaited, ReplyFault, Look};
 pub use read::{WireFault, read_reply};
+pub use reply_kind::{Awaited, Look, ReplyFault};
 pub use wire::{MAX_FRAMES, Stop, Wire};
-pub use write::{RequestPlace, close_message, create_message, framed, plain_message, query_message};
+pub use write::{
+    RequestPlace, close_message, create_message, framed, plain_message, query_message,
+};

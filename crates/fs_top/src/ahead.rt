@@ -125,7 +125,11 @@ enum CallOrOver {
 }
 
 // Reads lines up to one that asks for a call.
-fn next_call<S: Source>(alloc: Global, lines: &mut Lines, input: &mut S) -> Result<CallOrOver, NoMemory>
+fn next_call<S: Source>(
+    alloc: Global,
+    lines: &mut Lines,
+    input: &mut S,
+) -> Result<CallOrOver, NoMemory>
     ensures found { IfOk result (IsFound lines.old.number lines.new.number) }
     ensures on { lines.old.number ≤ lines.new.number }
     ensures brings { IfOk result (λ found. Brings found (lines_to_come lines.old (S.left input.old)) (lines_to_come lines.new (S.left input.new))) }

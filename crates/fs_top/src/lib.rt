@@ -2,7 +2,6 @@
 #![tactic(auto)]
 
 mod ahead;
-mod stat;
 mod client;
 mod ending;
 mod listen;
@@ -14,12 +13,13 @@ mod run;
 mod run_end;
 #[cfg(test)]
 mod run_end_tests;
+mod stat;
 #[cfg(test)]
 mod tests;
 mod top;
 mod verdict;
 mod words;
 
-pub use ending::{Ending, Greeting, FirstFrameFault};
+pub use ending::{Ending, FirstFrameFault, Greeting};
 pub use run_end::End;
 pub use top::smbfs;

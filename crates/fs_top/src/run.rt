@@ -21,12 +21,12 @@ ghost use Rattle.fs_top.specs.Runs.{IsReady, IsAhead, Finishes, AnswersLine, Ans
 ghost use Rattle.fs_top.specs.Script.{end_by, over_of, coming_of, to_come};
 ghost use Rattle.fs_top.specs.Progress.{reads_by, ReadsOn};
 
-use crate::ahead::{ScriptCall, Over};
-use crate::stat::stat;
+use crate::ahead::{Over, ScriptCall};
 use crate::client::Client;
 use crate::mount::{join, leave, mount};
 use crate::print::put_all;
 use crate::run_end::End;
+use crate::stat::stat;
 use fs_script::answer_line;
 use fs_types::{Answer, Call};
 use smb_base::{Errno, NoMemory, Text, Units};

@@ -18,8 +18,8 @@ ghost use Rattle.fs_top.specs.Talks.{Talks, ExchangesTo};
 
 use crate::client::{Client, OPTIONS, PATIENCE};
 use fs_core::{
-    Awaited, ReplyFault, RequestPlace, Stop, close_message, create_message, query_message, send_request,
-    take_reply,
+    Awaited, ReplyFault, RequestPlace, Stop, close_message, create_message, query_message,
+    send_request, take_reply,
 };
 use fs_types::{Answer, Kind, StatOf};
 use share_spec::{Rep, RepBody};

@@ -6,7 +6,7 @@ ghost use Rattle.smb_head.specs.Header.{head_of};
 ghost use Rattle.smb_chain.specs.Parts.{step_of};
 ghost use Rattle.fs_top.specs.Verdict.{MessageEnds, ReplyEnds, GreetingEnds, RefusalEnds, is_reply, second_kind, unless_more, answer_of, EndsWait};
 
-use crate::ending::{Ending, Greeting, FirstFrameFault};
+use crate::ending::{Ending, FirstFrameFault, Greeting};
 use bitflags::Flags;
 use smb_base::{Mid, Status};
 use smb_body_a::{NegotiateReply, read_negotiate_reply};

@@ -58,7 +58,10 @@ fn has(flags: u32, flag: u32) -> bool
 
 // What a message asks for, if it is a request that is known.
 #[tactic(auto, unfolding(fs_plain::specs::Requests::wire_request))]
-pub(crate) fn what_is_asked(alloc: Global, message: &[u8]) -> Result<Option<ParsedRequest>, NoMemory>
+pub(crate) fn what_is_asked(
+    alloc: Global,
+    message: &[u8],
+) -> Result<Option<ParsedRequest>, NoMemory>
     ensures exact { IfOk result (λ a. option_map wire_request_of a ≡ wire_request message.now) }
     ensures taken { IfOk result (λ a. IfSome a (λ x. is_taken x ≡ true)) }
 {
@@ -152,7 +155,11 @@ fn create_of(message: &[u8]) -> Option<CreateRequest<'_>>
 }
 
 // A CREATE, if it reads and wants neither a lease nor a durable open, new or old.
-fn asked_create(alloc: Global, related: bool, message: &[u8]) -> Result<Option<ParsedRequest>, NoMemory>
+fn asked_create(
+    alloc: Global,
+    related: bool,
+    message: &[u8],
+) -> Result<Option<ParsedRequest>, NoMemory>
     ensures exact { IfOk result (λ a. option_map wire_request_of a ≡ create_asked related message.now) }
     ensures taken { IfOk result (λ a. IfSome a (λ x. is_taken x ≡ true)) }
 {
