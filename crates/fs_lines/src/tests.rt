@@ -10,13 +10,6 @@ fn bytes(rt: &(impl Abort + AllocGlobal), b: &[u8]) -> Bytes {
     }
 }
 
-fn numbers(rt: &(impl Abort + AllocGlobal), n: &[u64]) -> U64List {
-    match U64List::of(rt.alloc(), n) {
-        Ok(list) => list,
-        Err(_) => panic!(rt; "no memory"),
-    }
-}
-
 // A source that gives one byte a read.
 #[derive(Drop)]
 struct OneByOne {
@@ -47,57 +40,19 @@ fn gives<S: Source>(rt: &impl Abort, lines: &mut Lines, source: &mut S, line: &s
     assert_eq!(rt; lines.number(), number);
 }
 
-fn ends<S: Source>(rt: &impl Abort, lines: &mut Lines, source: &mut S, number: u64) {
-    assert!(rt; matches!(lines.next(source), NextLine::End));
-    assert!(rt; matches!(lines.next(source), NextLine::End));
-    assert_eq!(rt; lines.number(), number);
-}
-
-fn gives_all<S: Source>(rt: &(impl Abort + AllocGlobal), source: &mut S, expected: &[&str]) {
-    let mut lines = Lines::new(rt.alloc());
-    assert_eq!(rt; lines.number(), 0);
-    let mut number: u64 = 0;
-    for line in expected {
-        number = number.saturating_add(1);
-        gives(rt, &mut lines, source, line, number);
-    }
-    ends(rt, &mut lines, source, number);
-}
-
 #[test]
-fn the_lines_are_the_same_in_one_piece_and_byte_by_byte(rt: HostRuntime) {
-    let texts: [(&[u8], &[&str]); 6] = [
-        (b"", &[]),
-        (b"\n", &[""]),
-        (b"one\ntwo\r\n\n\nlast", &["one", "two\r", "", "", "last"]),
-        (b"one\n", &["one"]),
-        (b"\r", &["\r"]),
-        ("gr\u{fc}n\n\u{20ac}".as_bytes(), &["gr\u{fc}n", "\u{20ac}"]),
-    ];
-    for (text, expected) in texts {
-        gives_all(&rt, &mut SureSource::new(bytes(&rt, text)), expected);
-        gives_all(
-            &rt,
-            &mut MemSource::new(bytes(&rt, text), numbers(&rt, &[])),
-            expected,
-        );
-        let mut slow = OneByOne {
-            source: SureSource::new(bytes(&rt, text)),
-        };
-        gives_all(&rt, &mut slow, expected);
-    }
-}
-
-#[test]
-fn a_line_that_is_not_text_is_refused_and_counted(rt: HostRuntime) {
-    let mut source = SureSource::new(bytes(&rt, b"a\n\xff\xfe\nb\n\xc3"));
+fn lines_come_byte_by_byte_and_one_that_is_not_text_is_refused(rt: HostRuntime) {
+    let mut source = OneByOne {
+        source: SureSource::new(bytes(&rt, b"a\r\n\xff\xfe\n\xe2\x82\xac\n\xc3")),
+    };
     let mut lines = Lines::new(rt.alloc());
-    gives(&rt, &mut lines, &mut source, "a", 1);
+    gives(&rt, &mut lines, &mut source, "a\r", 1);
     assert!(rt; matches!(lines.next(&mut source), NextLine::NotText));
-    assert_eq!(rt; lines.number(), 2);
-    gives(&rt, &mut lines, &mut source, "b", 3);
+    gives(&rt, &mut lines, &mut source, "\u{20ac}", 3);
     assert!(rt; matches!(lines.next(&mut source), NextLine::NotText));
-    ends(&rt, &mut lines, &mut source, 4);
+    assert!(rt; matches!(lines.next(&mut source), NextLine::End));
+    assert!(rt; matches!(lines.next(&mut source), NextLine::End));
+    assert_eq!(rt; lines.number(), 4);
 }
 
 // A line of the greatest length, and then these bytes.
@@ -114,13 +69,11 @@ fn long(rt: &(impl Abort + AllocGlobal), then: &[u8]) -> SureSource {
 #[test]
 fn the_longest_line_is_given_and_a_longer_one_refused_for_good(rt: HostRuntime) {
     for then in [b"".as_slice(), b"\n", b"\nnext"] {
-        let mut source = long(&rt, then);
         let mut lines = Lines::new(rt.alloc());
-        match lines.next(&mut source) {
+        match lines.next(&mut long(&rt, then)) {
             NextLine::Line(line) => assert_eq!(rt; line.len(), MAX_LINE),
             _ => panic!(rt; "no line"),
         }
-        assert_eq!(rt; lines.number(), 1);
     }
     for then in [b"x".as_slice(), b"x\n", b"x\nnext", b"\xff\n"] {
         let mut source = long(&rt, then);
@@ -133,16 +86,16 @@ fn the_longest_line_is_given_and_a_longer_one_refused_for_good(rt: HostRuntime) 
 
 #[test]
 fn a_failed_read_is_told_and_loses_nothing(rt: HostRuntime) {
-    let mut source = MemSource::new(bytes(&rt, b"one\ntwo"), numbers(&rt, &[1]));
+    let Ok(fail) = U64List::of(rt.alloc(), &[0, 2]) else {
+        panic!(rt; "no memory");
+    };
+    let mut source = MemSource::new(bytes(&rt, b"one\ntwo"), fail);
     let mut lines = Lines::new(rt.alloc());
+    assert!(rt; matches!(lines.next(&mut source), NextLine::Failed));
+    assert_eq!(rt; lines.number(), 0);
     gives(&rt, &mut lines, &mut source, "one", 1);
     assert!(rt; matches!(lines.next(&mut source), NextLine::Failed));
     assert_eq!(rt; lines.number(), 1);
     gives(&rt, &mut lines, &mut source, "two", 2);
-    ends(&rt, &mut lines, &mut source, 2);
-
-    let mut empty = MemSource::new(bytes(&rt, b""), numbers(&rt, &[0]));
-    let mut lines = Lines::new(rt.alloc());
-    assert!(rt; matches!(lines.next(&mut empty), NextLine::Failed));
-    ends(&rt, &mut lines, &mut empty, 0);
+    assert!(rt; matches!(lines.next(&mut source), NextLine::End));
 }
