@@ -1,5 +1,5 @@
 -- a message that is shorter than a header is the front of itself
-use Rattle.std.proofs.Common.{arith, ◌≡◌, ◌≤◌, length, sym}
+use Rattle.std.proofs.Common.{arith, sym}
 use Rattle.std.proofs.lemmas.List.{take_all}
 use Rattle.smb_show.proofs.page.front.Goals as goal
 
