@@ -1,6 +1,6 @@
 //! One line of the input.
 
-ghost use Rattle.std.specs.Prelude.{◌≡◌, IfOk, Ok};
+ghost use Rattle.std.specs.Prelude.{◌≡◌, ◌++◌, IfOk, MatchResult, Ok, codes};
 ghost use Rattle.smb_show.specs.Line.{bytes_of, is_vector};
 
 use crate::fault::LineFault;
@@ -21,9 +21,7 @@ pub fn is_vector(line: &str) -> bool
 
 /// The lines of a vector: its kind, and its fields or its fault.
 pub fn shown(alloc: Global, line: &str) -> Result<Page, LineFault> {
-    let Some((kind, digits)) = line.split_once(' ') else {
-        return Err(LineFault::Words);
-    };
+    let (kind, digits) = words_of(line)?;
     let bytes = bytes_of(alloc, digits)?;
     let mut page = Page::new(alloc);
     page.kind(kind)?;
@@ -31,6 +29,18 @@ pub fn shown(alloc: Global, line: &str) -> Result<Page, LineFault> {
         return Err(LineFault::Kind);
     }
     Ok(page)
+}
+
+// The two words of a line, at its first space.
+fn words_of(line: &str) -> Result<(&str, &str), LineFault>
+    ensures { MatchResult result
+        (λ words. line.now ≡ words.0.now ++ (codes " " ++ words.1.now))
+        (λ fault. fault ≡ LineFault.Words) }
+{
+    match line.split_once(' ') {
+        Some(words) => Ok(words),
+        None => Err(LineFault::Words),
+    }
 }
 
 // Adds the fields of a vector, if there is such a kind.

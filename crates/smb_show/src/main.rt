@@ -11,8 +11,6 @@ mod line;
 mod names;
 mod page;
 mod requests;
-#[cfg(test)]
-mod tests;
 mod wire;
 
 use anyhow::{Result, bail};
