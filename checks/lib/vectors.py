@@ -118,12 +118,13 @@ def refusals(program):
     if not os.access(program, os.X_OK):
         print(f"checks/vectors: {program} is not built: its part is skipped")
         return False
-    bad = 0
-    for line in ("empty", "emty 00", "empty 0g", "empty 0", " empty 00", "from_wire_sfm 61", "to_wire_sfm ff", "empty 00 00"):
+    lines, bad = ("empty", "emty 00", "empty 0g", "empty 0", " empty 00", "from_wire_sfm 61", "to_wire_sfm ff", "empty 00 00"), 0
+    for line in lines:
         done = subprocess.run([program], input=f"# one\n\nempty -\n{line}\nempty -\n", capture_output=True, text=True, timeout=60)
         if done.returncode != 1 or "line 4:" not in done.stderr or "vectors" in done.stdout:
             print(f"checks/vectors: {line!r} gives status {done.returncode} and {done.stderr!r}")
             bad += 1
+    print(f"checks/vectors: {len(lines) - bad} of {len(lines)} lines that are no vectors end it with their number")
     return bad > 0
 
 
