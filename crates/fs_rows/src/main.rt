@@ -73,10 +73,10 @@ fn play(rt: &(impl Print + AllocGlobal), book: &Book, number: usize) -> Result<b
 /// Plays a row in pieces of this size, and says whether it came out. If not, it prints what was wanted and what was found.
 fn once(rt: &(impl Print + AllocGlobal), book: &Book, number: usize, size: usize) -> Result<bool> {
     let alloc = rt.alloc();
-    let row = book.row(alloc, number)?;
+    let mut row = book.row(alloc, number)?;
     let name = book.name(number);
     let want = wanted(alloc, &row.wanted)?;
-    let got = found(alloc, row, size).context(format_args!("row {name}"))?;
+    let got = found(alloc, &mut row, size).context(format_args!("row {name}"))?;
     if is_same(&want, &got) {
         return Ok(true);
     }

@@ -6,7 +6,7 @@ use crate::slow::Slow;
 use crate::story::{connects, marks, put, sent, tell};
 use anyhow::{Result, bail};
 use fs_top::smbfs;
-use share_box::{BoxLink, Schedule, TurnList};
+use share_box::{BoxLink, Schedule};
 use smb_base::{Bytes, U64List};
 use smb_link::{
     Event, Given, GivenList, Got, Link, LinkFail, ListLink, Mark, MemClock, MemSink, MemSource,
@@ -20,15 +20,14 @@ pub const SEED: [u8; 16] = [0, 1, 2, 3, 4, 5, 6, 7, 8, 9, 10, 11, 12, 13, 14, 15
 const RECEIVES: u32 = 100_000;
 
 /// What came of a row, in pieces of this size, as a text of the same form as [`wanted`] has.
-pub fn found(alloc: Global, row: Row, size: usize) -> Result<Vec<u8>> {
+pub fn found(alloc: Global, row: &mut Row, size: usize) -> Result<Vec<u8>> {
     match row.side {
-        Side::Peer(refused) => {
-            let turns = given(alloc, &row.steps, size)?;
-            let mut link = ListLink::new(alloc, refused, turns);
-            let (status, sink) = run(alloc, &row, &mut link)?;
-            report(alloc, status, &sink, link.story().as_slice(), &row.wanted)
+        Side::Peer(refused) => peer(alloc, row, refused, size),
+        Side::Share(room, fold, credits) => {
+            let turns = Schedule::List(row.take_turns());
+            let mut link = BoxLink::new(alloc, room, fold, credits, turns)?;
+            share(alloc, row, &mut link, size)
         }
-        Side::Share(room, fold, credits) => share(alloc, row, room, fold, credits, size),
         Side::Mount(previous) => {
             let path = row.path.as_str();
             mount(alloc, path, previous, &row.steps, row.wanted.requests)
@@ -37,33 +36,37 @@ pub fn found(alloc: Global, row: Row, size: usize) -> Result<Vec<u8>> {
     }
 }
 
-/// What came of a row with a share: of a run, or of a link's use alone.
-fn share(
-    alloc: Global,
-    row: Row,
-    room: u64,
-    fold: bool,
-    credits: u16,
-    size: usize,
-) -> Result<Vec<u8>> {
-    let mut row = row;
-    let turns = take_turns(alloc, &mut row.turns);
-    let mut link = BoxLink::new(alloc, room, fold, credits, Schedule::List(turns))?;
+/// What came of a run with a peer.
+fn peer(alloc: Global, row: &Row, refused: u32, size: usize) -> Result<Vec<u8>> {
+    let turns = given(alloc, &row.steps, size)?;
+    let mut link = ListLink::new(alloc, refused, turns);
+    let (status, sink) = run(alloc, row, &mut link)?;
+    report(alloc, status, &sink, link.story().as_slice(), &row.wanted)
+}
+
+/// What came of a row with a share: of a run, or of a link's use by hand.
+fn share(alloc: Global, row: &Row, link: &mut BoxLink, size: usize) -> Result<Vec<u8>> {
     if row.words.is_some() {
-        let (status, sink) = run(alloc, &row, &mut link)?;
-        return report(alloc, status, &sink, link.story().as_slice(), &row.wanted);
+        run_over_share(alloc, row, link)
+    } else {
+        use_share(alloc, &row.steps, link, size)
     }
-    for step in &row.steps {
-        take_step(alloc, &mut link, step, size)?;
+}
+
+/// What came of a run over a share.
+fn run_over_share(alloc: Global, row: &Row, link: &mut BoxLink) -> Result<Vec<u8>> {
+    let (status, sink) = run(alloc, row, link)?;
+    report(alloc, status, &sink, link.story().as_slice(), &row.wanted)
+}
+
+/// The story of a share's link that takes these steps.
+fn use_share(alloc: Global, steps: &Vec<Step>, link: &mut BoxLink, size: usize) -> Result<Vec<u8>> {
+    for step in steps {
+        take_step(alloc, link, step, size)?;
     }
     let mut text = Vec::new(alloc);
     tell(alloc, link.story().as_slice(), &mut text)?;
     Ok(text)
-}
-
-/// The turns, without a copy.
-fn take_turns(alloc: Global, turns: &mut TurnList) -> TurnList {
-    std::mem::replace(turns, TurnList::new(alloc))
 }
 
 /// The program's run over this link: its status, and what it printed.

@@ -120,6 +120,11 @@ impl Row {
         })
     }
 
+    /// The turns of a share, of which none is left then.
+    pub fn take_turns(&mut self) -> TurnList {
+        std::mem::replace(&mut self.turns, TurnList::new(self.alloc))
+    }
+
     /// Takes a line that says what is given. It answers `false` where the line is none.
     pub fn given(&mut self, names: &Names, line: &str) -> Result<bool> {
         let (word, rest) = cut(line);
