@@ -50,7 +50,7 @@ finished_on s known c (Ask (Opening path access disposition options) rest) p =
     let done : Rep × Share = wish_done_on p c (Opening path access disposition options) in
     if is_open c.call
     then with_kept (reusable path access s.opens p.kept) (None, p) (λ real. finished_on s known
-        (record c { opened = with_given (open_given done.0.body) c.opened }) (rest (shown done.0)) (side_reopened p path done real))
+    (record c { opened = with_given (open_given done.0.body) c.opened }) (rest (shown done.0)) (side_reopened p path done real))
     else (None, p)
 finished_on s known c (Ask (Query file) rest) p = (None, p)
 finished_on s known c (Ask (Close file) rest) p =

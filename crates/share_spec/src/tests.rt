@@ -130,5 +130,7 @@ fn each_other_list_takes_one(rt: HostRuntime) {
     let mut grants = GrantList::new(rt.alloc());
     assert!(rt; grants.push(None).is_ok() && grants.as_slice().len() == 1);
     let mut owed = OwedList::new(rt.alloc());
-    assert!(rt; owed.push(Owed::Notice(Key([1; 16]), 3, true)).is_ok() && owed.as_slice().len() == 1);
+    assert!(rt;
+        owed.push(Owed::Notice(Key([1; 16]), 3, true)).is_ok() && owed.as_slice().len() == 1
+    );
 }

@@ -85,7 +85,7 @@ most_frames = 16777216
 abbrev pub ask_until : ℕ → (Rep → Bool) → Wish → List Rep → (List Rep → Program) → Program
 ask_until zero is_last wish replies rest = rest replies
 ask_until (suc n) is_last wish replies rest = Program.Ask wish (λ reply.
-  if is_last reply then rest (reply ∷ replies) else ask_until n is_last wish (reply ∷ replies) rest)
+    if is_last reply then rest (reply ∷ replies) else ask_until n is_last wish (reply ∷ replies) rest)
 
 -- the answer for a status of the server: the error number that the table has for it; one that the table has none for is told
 abbrev pub of_number : ℕ → Status → Answer
