@@ -1,21 +1,17 @@
 -- Stories, each of which a looser reading of the rules would judge wrongly.
-use Rattle.std.proofs.Common.{◌≡◌, ℕ, true, false, [], ◌∷◌, ◌++◌, refl, None, Some, List, Option, Bool}
+use Rattle.std.proofs.Common.{◌≡◌, ℕ, true, false, [], ◌∷◌, ◌++◌, refl, None, Some, List, Bool}
 use Rattle.std.specs.Prelude.{codes, take, drop, set}
 use Rattle.std.specs.Str.{chars}
-use Rattle.smb_base.specs.declared.names.Mid.{Mid}
 use Rattle.smb_base.specs.declared.names.Key.{Key}
 use Rattle.fs_types.specs.declared.names.Kind.TheVariants as kind
 use Rattle.fs_types.specs.declared.answer.Answer.{Answer}
 use Rattle.fs_types.specs.declared.answer.Answer.TheVariants as answer
 use Rattle.fs_types.specs.declared.call.Call.TheVariants as call
 use Rattle.share_spec.specs.declared.request.Req.{Req}
-use Rattle.share_spec.specs.declared.request.Req.TheVariants as req
 use Rattle.share_spec.specs.declared.request.Rep.{Rep}
-use Rattle.share_spec.specs.declared.request.RepBody.{RepBody}
 use Rattle.share_spec.specs.declared.request.RepBody.TheVariants as body
 use Rattle.share_spec.specs.declared.share.Share.{Share}
 use Rattle.share_spec.specs.State.{Making}
-use Rattle.share_spec.specs.Reply.{fid_of, of_status}
 use Rattle.share_spec.specs.Names.{components}
 use Rattle.smb_link.specs.declared.event.Event.{Event}
 use Rattle.smb_link.specs.declared.event.Event.TheVariants as event
@@ -30,13 +26,13 @@ use Rattle.smb_names.specs.WireName.{fault_of, spelling}
 use Rattle.fs_plain.specs.Requests.{wire_request, asked_lease, wanted_lease}
 use Rattle.fs_plain.specs.Replies.{reply_in, is_interim_of}
 use Rattle.fs_plain.specs.Replay.{Run, Replay}
-use Rattle.fs_plain.specs.Taken.{after_request, is_right_request}
+use Rattle.fs_plain.specs.Taken.{after_request}
 use Rattle.fs_plain.specs.Answered.{odd}
 use Rattle.fs_plain.specs.Differences.{difference}
 use Rattle.fs_plain.specs.Divergence.{divergence}
 use Rattle.fs_plain.specs.Masked.{masked}
 use Rattle.fs_plain.proofs.Frames.{create_frame, both_frame, chain_frame, missing_chain_frame}
-use Rattle.fs_plain.proofs.HonestStory.{mid, run, story, options}
+use Rattle.fs_plain.proofs.HonestStory.{mid, run, story}
 
 abbrev pub made : Making
 made = record { room = 1000; fold = false }

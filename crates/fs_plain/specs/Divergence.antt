@@ -24,7 +24,7 @@ use Rattle.fs_plain.specs.Replay.{Run}
 use Rattle.fs_plain.specs.Answered.{Difference, odd_unless}
 use Rattle.fs_plain.specs.Differences.{mids_in, with_number, closed_if, ended_between, is_passed_over, first_of_two}
 use Rattle.fs_plain.specs.Paired.{Pair, pair_of_real, pair_given}
-use Rattle.fs_plain.specs.Told.{Announcement, Told, ids_of, was_begun, told_after}
+use Rattle.fs_plain.specs.Told.{Announcement, ids_of, was_begun, told_after}
 use Rattle.fs_plain.specs.PlainSide.{PlainCall, PlainSide, is_deed, plain_side, file_named}
 use Rattle.fs_plain.specs.PlainTaken.{side_after_took, is_right_took}
 use Rattle.fs_plain.specs.PlainAnswered.{judged_answer, side_after_answer}

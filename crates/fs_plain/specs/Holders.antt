@@ -1,5 +1,5 @@
 -- Whose each open of this client is: each that stands has a holder who will close it, or who keeps it for a user.
-use Rattle.std.specs.Prelude.{◌≡◌, ◌<◌, ◌⊎◌, ℕ, ◌==◌, Bool, true, false, List, [], ◌∷◌, length, Option, Some, None}
+use Rattle.std.specs.Prelude.{◌≡◌, ◌⊎◌, ℕ, ◌==◌, true, false, List, [], ◌∷◌, length, Some}
 use Rattle.std.specs.List.{AllByRecursion, list_any}
 use Rattle.share_spec.specs.declared.opens.Open.{Open}
 use Rattle.fs_plain.specs.Tidy.{WillClose, Tidies}

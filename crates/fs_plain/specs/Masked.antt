@@ -1,5 +1,5 @@
 -- What a reply tells of the share's own reply, by what its request asked for. The share answers more than some messages can carry.
-use Rattle.std.specs.Prelude.{ℕ, ◌==◌, Bool, false, ◌&&◌, if◌then◌else◌, List, slice_index, is_some, Result, Ok, Err}
+use Rattle.std.specs.Prelude.{ℕ, ◌==◌, Bool, false, if◌then◌else◌, List, slice_index, is_some, Result, Ok, Err}
 use Rattle.smb_le.specs.Numbers.{number_at}
 use Rattle.smb_head.specs.declared.command.TheConstants.{CREATE, QUERY_INFO}
 use Rattle.smb_field.specs.declared.field.BodyFault.{BodyFault}

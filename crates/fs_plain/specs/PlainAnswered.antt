@@ -1,13 +1,12 @@
 -- An answer of a call of the plain side: what is left of its program is done on the plain share, and the answer is compared.
-use Rattle.std.specs.Prelude.{ℕ, ◌==◌, Bool, true, false, not, ◌&&◌, ◌||◌, if◌then◌else◌, List, [], ◌∷◌, ◌++◌, Option, Some, None}
+use Rattle.std.specs.Prelude.{ℕ, ◌==◌, Bool, true, false, not, ◌&&◌, ◌||◌, if◌then◌else◌, List, [], ◌++◌, Option, Some, None}
 use Rattle.fs_types.specs.declared.answer.Answer.{Answer}
 use Rattle.fs_types.specs.declared.call.Call.{Call}
 use Rattle.fs_types.specs.declared.call.Call.TheVariants as call
-use Rattle.share_spec.specs.declared.request.Req.TheVariants as req
 use Rattle.share_spec.specs.declared.request.Rep.{Rep}
 use Rattle.share_spec.specs.declared.share.Share.{Share}
 use Rattle.share_spec.specs.PlainShare.{shown}
-use Rattle.smb_link.specs.Program.{Wish, Open as Opening, Query, Close, File, Program, Known, Ask, Look, Say}
+use Rattle.smb_link.specs.Program.{Open as Opening, Query, Close, File, Program, Known, Ask, Look, Say}
 use Rattle.fs_plain.specs.Replay.{Run}
 use Rattle.fs_plain.specs.Answered.{Difference, odd, is_number, ended_by, compared}
 use Rattle.fs_plain.specs.Paired.{Pair, KeptOpen, pair_of_plain, kept_of, paired, open_given, reusable, kept_but, unpaired}

@@ -1,25 +1,22 @@
 -- A client without caches at a share of its own, which does what the story's client was asked to do. Beside what it keeps stands what the
 -- client's own events tell. The core's proofs still go by Replay; they are to go by this.
-use Rattle.std.specs.Prelude.{ℕ, zero, suc, unwrap_or, ◌+◌, ◌-◌, ◌==◌, Bool, true, false, not, ◌&&◌, ◌||◌, nat_lt, nat_le, if◌then◌else◌, List, [], ◌∷◌, ◌++◌, length, map, filter, Option, Some, None, is_some}
-use Rattle.std.specs.List.{list_any, list_all}
+use Rattle.std.specs.Prelude.{ℕ, zero, suc, unwrap_or, ◌==◌, Bool, false, not, if◌then◌else◌, List, [], ◌∷◌, ◌++◌, length, filter, Option, Some, None}
 use Rattle.smb_base.specs.declared.names.Fid.{Fid}
-use Rattle.smb_base.specs.declared.names.Mid.{Mid}
 use Rattle.fs_types.specs.declared.call.Call.{Call}
 use Rattle.fs_types.specs.declared.call.Call.TheVariants as call
-use Rattle.share_spec.specs.declared.opens.Open.{Open}
 use Rattle.share_spec.specs.declared.request.Rep.{Rep}
 use Rattle.share_spec.specs.declared.share.Share.{Share}
 use Rattle.share_spec.specs.State.{Making, fresh_share}
 use Rattle.share_spec.specs.Reply.{fid_of}
-use Rattle.share_spec.specs.PlainShare.{plain_share, plain_step, shown}
+use Rattle.share_spec.specs.PlainShare.{plain_share, plain_step}
 use Rattle.smb_link.specs.declared.event.Event.{Event}
 use Rattle.smb_link.specs.declared.event.Event.TheVariants as event
 use Rattle.smb_link.specs.declared.mark.Mark.TheVariants as mark
 use Rattle.smb_link.specs.Locals.{Locals}
-use Rattle.smb_link.specs.Program.{File, Own, Named, Wish, Open as Opening, Query, Close, Program, Known, Ask, Look, Say, settled}
+use Rattle.smb_link.specs.Program.{File, Own, Named, Wish, Open as Opening, Query, Close, Program}
 use Rattle.smb_link.specs.Story.{is_of_share}
 use Rattle.fs_plain.specs.World.{us}
-use Rattle.fs_plain.specs.Replay.{Owner, begins_in}
+use Rattle.fs_plain.specs.Replay.{begins_in}
 use Rattle.fs_plain.specs.Taken.{wish_of}
 use Rattle.fs_plain.specs.Paired.{Pair, KeptOpen}
 use Rattle.fs_plain.specs.Told.{Told, nothing_told}
