@@ -15,7 +15,7 @@ use Rattle.fs_plain.specs.Replay.{Run, Running, Replay, plain_of}
 use Rattle.fs_plain.specs.Differences.{replay_step, with_number, closed_if, all_plain_ended, ended_between}
 use Rattle.fs_plain.specs.View.{Item, View, same_flying, ran, reply_of_flying, rest_after, opened_after}
 use Rattle.fs_plain.specs.Tidy.{IsToBeClosed}
-use Rattle.fs_plain.specs.Related.{Related, bare, IsStanding, IsAnother, AreApart, AreSame, IsOther, AreDistinct, IsNamed}
+use Rattle.fs_plain.specs.Related.{Related, bare, IsStanding, IsAnother, AreApart, AreStanding, AreSame, IsOther, AreDistinct, IsNamed}
 use Rattle.fs_plain.proofs.Every.{every-filter, every-more, every-both, all_kept}
 use Rattle.fs_plain.proofs.Steps.{apart_filter}
 
@@ -200,7 +200,7 @@ all_ends s all apart =
     twice false = refl
 
 -- the plain share and the real one are still alike
-cut_tree : (s : Share) (pairs : List (ℕ × ℕ)) → AllByRecursion (IsStanding s.opens_made) s.opens → AreApart s.opens → AreSame pairs s.opens_made
+pub cut_tree : (s : Share) (pairs : List (ℕ × ℕ)) → AllByRecursion (IsStanding s.opens_made) s.opens → AreApart s.opens → AreSame pairs s.opens_made
     → all_plain_ended pairs (ended_between s.opens (after_cut s).opens) (bare s) ≡ bare (after_cut s)
 cut_tree s pairs all apart same =
     ap (λ (l : List Open). all_plain_ended pairs l (bare s)) (all_ends s all apart)
@@ -212,6 +212,16 @@ cut_tree s pairs all apart same =
     (apart_filter (ends s) s.opens apart)
     ∙ ap (λ (l : List Open). record (bare (all_closed (filter (ends s) s.opens) s)) { opens = l })
     (stay_all s apart ∙ sym (none_disconnected s.opens_made s all) ∙ sym (ap (map (disconnected us)) (stay_all s apart)))
+
+pub cut_made : (s : Share) → (after_cut s).opens_made ≡ s.opens_made
+cut_made s = made_still (filter (ends s) s.opens) s
+
+-- the opens that are left stand
+pub cut_standing : (s : Share) → AreStanding s → AreStanding (after_cut s)
+cut_standing s old = subst (λ (l : List Open). AllByRecursion (IsStanding (after_cut s).opens_made) l × AreApart l) (sym (opens_after s old.0 old.1)) (
+  subst (λ (n : ℕ). AllByRecursion (IsStanding n) (filter (stays s) s.opens)) (sym (cut_made s)) (every-filter (IsStanding s.opens_made) (stays s) s.opens old.0),
+  apart_filter (stays s) s.opens old.1,
+)
 
 -- a call as far as the plain client came with it, with nothing in flight
 abbrev pub part_of : List Owed → Item → Item
@@ -251,12 +261,8 @@ pub cut_related : (run : Run) (s : Share) (r : Replay) (v : View) (old : Related
 cut_related run s r v old = record {
   tree = ap (λ (p : Share). all_plain_ended r.pairs (ended_between s.opens (after_cut s).opens) p) old.tree ∙ cut_tree s r.pairs old.standing.0 old.standing.1 old.pairs;
   leases = no_leases (filter (ends s) s.opens) s old.leases;
-  standing = subst (λ (l : List Open). AllByRecursion (IsStanding (after_cut s).opens_made) l × AreApart l) (sym (opens_after s old.standing.0 old.standing.1)) (
-    subst (λ (n : ℕ). AllByRecursion (IsStanding n) (filter (stays s) s.opens)) (sym (made_still (filter (ends s) s.opens) s))
-        (every-filter (IsStanding s.opens_made) (stays s) s.opens old.standing.0),
-    apart_filter (stays s) s.opens old.standing.1,
-  );
-  pairs = subst (AreSame r.pairs) (sym (made_still (filter (ends s) s.opens) s)) old.pairs;
+  standing = cut_standing s old.standing;
+  pairs = subst (AreSame r.pairs) (sym (cut_made s)) old.pairs;
   kept = old.kept;
   connected = refl;
   held = refl;

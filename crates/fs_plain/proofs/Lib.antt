@@ -23,3 +23,4 @@ pub mod Clearing
 pub mod Moves
 pub mod Leading
 pub mod Leaving
+pub mod AlikeLaws

@@ -26,7 +26,7 @@ use Rattle.fs_plain.specs.Taken.{after_taken, is_right_taken, after_sent_taken, 
 use Rattle.fs_plain.specs.Answered.{odd_unless}
 use Rattle.fs_plain.specs.Differences.{replay_step, judge, all_plain_ended, ended_between, after_ends}
 use Rattle.fs_plain.specs.View.{Item, Flight, View, item_with, flight_with, left, is_owned_by, IsOwned, calm, waits, IsNext, IsItems, Belongs, BelongsTo}
-use Rattle.fs_plain.specs.Related.{Related, IsStanding}
+use Rattle.fs_plain.specs.Related.{Related, IsStanding, AreStanding}
 use Rattle.fs_plain.proofs.Acts.{act_related}
 use Rattle.fs_plain.proofs.Lookups.{waiting_flight, found_holds, left_in}
 use Rattle.fs_plain.proofs.Tooks.{waiting_as, aside_taken, pend_related, owned_taken}
@@ -141,8 +141,12 @@ none_dropped made key (o ∷ os) all =
     no true b = refl
     no false b = refl
 
+-- so nothing happens
+pub none_drops : (s : Share) (key : Key) → AreStanding s → happens s (event.Dropped key) ≡ s
+none_drops s key standing = ap (λ (l : List Open). all_closed l s) (none_dropped s.opens_made key s.opens standing.0)
+
 -- an open that stands in a list did not end
-stands_there : (os : List Open) → AllByRecursion (λ o. list_any (λ q. q.number == o.number) os ≡ true) os
+pub stands_there : (os : List Open) → AllByRecursion (λ o. list_any (λ q. q.number == o.number) os ≡ true) os
 stands_there [] = tt
 stands_there (o ∷ os) = (
   ap (λ (t : Bool). t || list_any (λ q. q.number == o.number) os) (itself o.number),
@@ -157,7 +161,7 @@ stands_there (o ∷ os) = (
     later true b is = refl
     later false b is = is
 
-none_of : (after before : List Open) → AllByRecursion (λ o. list_any (λ q. q.number == o.number) after ≡ true) before → ended_between before after ≡ []
+pub none_of : (after before : List Open) → AllByRecursion (λ o. list_any (λ q. q.number == o.number) after ≡ true) before → ended_between before after ≡ []
 none_of after [] all = refl
 none_of after (o ∷ os) all =
     ap (λ (t : Bool). if not t then o ∷ ended_between os after else ended_between os after) all.0 ∙ none_of after os all.1
@@ -182,7 +186,7 @@ share_related run s r v (event.Pend mid) is old may = (
 share_related run s r v (event.Act who request reply) is old may = act_related run s r v who request reply old may
 share_related run s r v (event.Break key state) is old may = absurd (not_broken s.opens key s.leases state old.leases may)
 share_related run s r v (event.Dropped key) is old may =
-    let same : happens s (event.Dropped key) ≡ s = ap (λ (l : List Open). all_closed l s) (none_dropped s.opens_made key s.opens old.standing.0) in (
+    let same : happens s (event.Dropped key) ≡ s = none_drops s key old.standing in (
       refl,
       subst (λ (t : Share). Related t (replay_step run s r (event.Dropped key)) v) (sym same)
           (subst (λ (t : Replay). Related s t v) (sym (none_ended s r (event.Dropped key) same)) old),

@@ -24,3 +24,4 @@ pub mod PlainAnswered
 pub mod Divergence
 pub mod Holders
 pub mod Masked
+pub mod Alike
