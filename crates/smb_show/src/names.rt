@@ -1,5 +1,5 @@
-//! The kinds of names and paths, as `smb_names` reads and writes them. The bytes of a wire name are its units of UTF-16, low byte first;
-//! those of a name or a path are its UTF-8.
+//! The kinds of names and paths, as `smb_names` reads and writes them. The bytes of a wire name are its units of UTF-16, the low byte
+//! first; those of a name or a path are its UTF-8.
 
 use crate::fault::LineFault;
 use crate::page::{Item, Page};
