@@ -47,6 +47,9 @@ impl Window {
             × (mid.0 ≡ least self.old)
             × (self.new ≡ after_use charge self.old)) }
 
+        // So many fewer may be used then.
+        ensures left { IfSome result (λ _. length (usable self.new) + charge ≡ length (usable self.old)) }
+
         // None exactly where fewer may be used.
         ensures none { IfNone result ((length (usable self.old) < charge) × (self.new ≡ self.old)) }
 

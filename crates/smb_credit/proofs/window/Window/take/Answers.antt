@@ -34,3 +34,13 @@ returns-clause-follow c = (
   subst (λ (ids : Ids). All (λ id. id < c.self.inside.next) ids.used) c.self.view_is (below-numbers 0 c.self.inside.next c.self.inside.next (omega arith)),
   sym (length-numbers 0 c.self.inside.next) ∙ ap (λ (ids : Ids). length ids.used) c.self.view_is,
 )
+
+pub returns-clause-left : goal.returns-clause-left
+returns-clause-left c =
+    omega (
+      arith,
+      c.from-charge.ensures,
+      length-usable (c.self.inside.next + c.from-charge.result) c.self.inside.top (omega arith),
+      length-usable c.self.inside.next c.self.inside.top c.self.invariant,
+      ap (λ (ids : Ids). length (usable ids)) c.self.view_is,
+    )
