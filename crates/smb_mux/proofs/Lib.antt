@@ -1,2 +1,4 @@
 pub mod BodyLaws
 pub mod JudgeLaws
+pub mod SendLaws
+pub mod FlightLaws

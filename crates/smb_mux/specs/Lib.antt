@@ -1,3 +1,5 @@
 pub mod Bodies
 pub mod Judged
 pub mod Answered
+pub mod Sending
+pub mod InFlight
