@@ -2,3 +2,4 @@ pub mod BodyLaws
 pub mod JudgeLaws
 pub mod SendLaws
 pub mod FlightLaws
+pub mod AnswerLaws

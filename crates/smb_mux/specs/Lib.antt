@@ -3,3 +3,4 @@ pub mod Judged
 pub mod Answered
 pub mod Sending
 pub mod InFlight
+pub mod Answers

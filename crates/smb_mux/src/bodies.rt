@@ -16,20 +16,35 @@ use smb_field::BodyFault;
 
 // The commands (MS-SMB2 2.2.1.2).
 const NEGOTIATE: u16 = 0;
+
 const SESSION_SETUP: u16 = 1;
+
 const LOGOFF: u16 = 2;
+
 const TREE_CONNECT: u16 = 3;
+
 const TREE_DISCONNECT: u16 = 4;
+
 const CREATE: u16 = 5;
+
 const CLOSE: u16 = 6;
+
 const FLUSH: u16 = 7;
+
 const READ: u16 = 8;
+
 const WRITE: u16 = 9;
+
 const LOCK: u16 = 10;
+
 const ECHO: u16 = 13;
+
 const QUERY_DIRECTORY: u16 = 14;
+
 const QUERY_INFO: u16 = 16;
+
 const SET_INFO: u16 = 17;
+
 pub(crate) const OPLOCK_BREAK: u16 = 18;
 
 // What is wrong with a reply of this status to this command.

@@ -1,14 +1,16 @@
 //! Requests in flight.
 
-ghost use Rattle.std.specs.Prelude.{◌≡◌, ◌≤◌, ◌<◌, ◌++◌, ◌∷◌, [], length, take, IfOk, OnOk, OnErr};
+ghost use Rattle.std.specs.Prelude.{◌≡◌, ◌≤◌, ◌<◌, ◌++◌, ◌∷◌, [], length, take, drop, map, Ok, IfOk, OnOk, OnErr};
 ghost use Rattle.smb_head.specs.declared.first.TheConstants.{MAX_FRAME};
 ghost use Rattle.smb_head.specs.Stream.{frame};
 ghost use Rattle.smb_head.specs.Header.{head_of};
-ghost use Rattle.smb_chain.specs.Chain.{chain};
+ghost use Rattle.smb_chain.specs.Chain.{chain, parts_for};
 ghost use Rattle.smb_credit.specs.Window.{usable, least};
 ghost use Rattle.smb_mux.specs.Sending.{costs, placed, room_of, ids_after, flights_of};
 ghost use Rattle.smb_mux.specs.Judged.{judged, IsAnswer};
 ghost use Rattle.smb_mux.specs.InFlight.{start, after_sending, after_taking, granted_in, granted_by, without, AreBelow, IsStarved};
+ghost use Rattle.smb_chain.specs.Parts.{parts_of};
+ghost use Rattle.smb_mux.specs.Answers.{AreAnswers, Remain, messages_of};
 
 use crate::fault::{SubmitFault, TakeFault};
 use crate::judge::judge;
@@ -78,6 +80,8 @@ impl Mux {
 
         // The frame of these messages, the id of the first one, and how many there are.
         ensures frame { IfOk result (λ t. t.frame ≡ frame (chain (placed self.old.ids requests.now))) }
+        // It is split into these messages again.
+        ensures split_again { IfOk result (λ t. parts_of (drop 4 t.frame) ≡ map (λ part. Ok part) (parts_for (placed self.old.ids requests.now))) }
         ensures first { IfOk result (λ t. t.first.0 ≡ least self.old.ids) }
         ensures count { IfOk result (λ t. t.count ≡ length requests.now) }
 
@@ -116,6 +120,15 @@ impl Mux {
         ensures answer { IsAnswer (judged self.old.awaited frame.now) result }
         ensures ok { IfOk result (λ taken. self.new ≡ after_taking frame.now taken self.old) }
         ensures err { OnErr result (self.new ≡ self.old) }
+
+        // Each reply is the final one to a request that was in flight, and no request has two.
+        ensures answers { IfOk result (λ taken. AreAnswers self.old.awaited taken.replies) }
+
+        // Those requests are in flight no more, and all others still are.
+        ensures remain { IfOk result (λ taken. Remain taken.replies self.old.awaited self.new.awaited) }
+
+        // Each message of the frame brought something.
+        ensures all { IfOk result (λ taken. messages_of taken ≡ length (parts_of frame.now)) }
     {
         match judge(self.alloc, &self.flights, frame) {
             Ok(taken) => {
@@ -198,7 +211,8 @@ fn grant(window: &mut Window, message: &[u8])
 
 // Each of these replies answers its request.
 fn remove_all(flights: &mut BTreeMap<u64, u16>, replies: &[Reply])
-    ensures { flights.new.entries ≡ without replies.now flights.old.entries }
+    ensures exact { flights.new.entries ≡ without replies.now flights.old.entries }
+    ensures remain { Remain replies.now flights.old.entries flights.new.entries }
 {
     for reply in replies {
         flights.remove(&reply.mid.0);

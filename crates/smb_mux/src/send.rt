@@ -110,12 +110,7 @@ fn put_requests(out: &mut Vec<u8>, window: &Window, requests: &[Request]) -> Res
     Ok(())
 }
 
-fn put_request(
-    out: &mut Vec<u8>,
-    request: &Request,
-    mid: Mid,
-    last: bool,
-) -> Result<(), NoMemory>
+fn put_request(out: &mut Vec<u8>, request: &Request, mid: Mid, last: bool) -> Result<(), NoMemory>
     requires { 64 + length request.now.body ≤ MAX_FRAME }
     ensures { OnOk result (out.new.items ≡ out.old.items ++ part_for (message_for mid.0 request.now) last) }
 {

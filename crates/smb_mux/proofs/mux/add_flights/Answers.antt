@@ -33,7 +33,7 @@ loop-request-preserved c =
     ap length c.in-Some.ensures.follow.0 ∙ length-append c.loop-request.ids.used (numbers mid c.cost.result) ∙ ap (λ (n : ℕ). length c.loop-request.ids.used + n) (length-numbers mid c.cost.result) in
     record {
       all = flown c.loop-request.ids c.take.new.self mid r.command (drop c.loop-request.request-index rs) rest r es c.insert.new.self.entries _ front
-      c.in-Some.ensures.some.1 refl now under c.loop-request.invariant.all c.in-Ok.ensures.entries;
+          c.in-Some.ensures.some.1 refl now under c.loop-request.invariant.all c.in-Ok.ensures.entries;
       ids = ids_after-more c.loop-request.ids c.take.new.self _ (drop c.loop-request.request-index rs) rest r front now c.loop-request.invariant.ids;
       enough = omega (arith, ap costs front, c.loop-request.invariant.enough, c.in-Some.ensures.left, c.cost.ensures);
       below = flown_below mid r.command (length c.loop-request.ids.used) (length c.take.new.self.used) es c.insert.new.self.entries at (omega (arith, more, c.cost.ensures)) c.loop-request.invariant.below c.in-Ok.ensures.entries;

@@ -17,7 +17,7 @@ loop-i-preserved c =
     drop_more rs c.loop-i.i r (omega arith) ∙ ap (λ (x : Request). x ∷ rest) (sym c.index-requests-i.is) in
     record {
       written = written-more c.loop-i.ids c.take.new.self c.in-Some.mid.0 rs c.loop-i.i r c.loop-i.out.items c.put_request.new.out.items _ (omega arith) front
-      c.in-Some.ensures.some.1 (c.in-Some.ensures.some.2 ∙ ap (λ (n : ℕ). after_use n c.loop-i.ids) c.cost.ensures) c.loop-i.invariant.written c.in_ok-put_request-in-Some.ensures;
+          c.in-Some.ensures.some.1 (c.in-Some.ensures.some.2 ∙ ap (λ (n : ℕ). after_use n c.loop-i.ids) c.cost.ensures) c.loop-i.invariant.written c.in_ok-put_request-in-Some.ensures;
       room = omega (arith, room-step r rest, ap room_of front, c.loop-i.invariant.room);
       enough = omega (arith, ap costs front, c.loop-i.invariant.enough, c.in-Some.ensures.left, c.cost.ensures);
     }
