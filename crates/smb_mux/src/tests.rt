@@ -1,12 +1,59 @@
+//! Frames byte by byte, as MS-SMB2 2.2.1 and the bodies' own sections have them.
+
 use super::*;
 use smb_base::{Bytes, Key, Mid, NoMemory};
 use smb_field::BodyFault;
 use smb_head::HeadFault;
-use smb_le::{put_u16, put_u32, put_u64};
 use std::process::Abort;
-use std::test::Fail;
 
-// A request with this charge and body.
+// A reply to an ECHO (MS-SMB2 2.2.29) with id 0, and an interim reply to one with id 1, which grants 2 credits.
+const ECHOED: &str =
+    "fe534d4240000000000000000d00000001000000000000000000000000000000000000000000000000000000000000000000000000000000000000000000000004000000";
+
+const PENDING: &str =
+    "fe534d4240000000030100000d0002000300000000000000010000000000000000000000000000000000000000000000000000000000000000000000000000000900000000000000";
+
+// Two notices (MS-SMB2 2.2.23.2) of the lease with the key AA AA ..: to READ and HANDLE, with an acknowledgement; and to nothing.
+const NOTICES: &str =
+    "fe534d424000000000000000120001000100000070000000ffffffffffffffff00000000000000000000000000000000000000000000000000000000000000002c00000001000000aaaaaaaaaaaaaaaaaaaaaaaaaaaaaaaa00000000f3ffffff00000000000000000000000000000000fe534d424000000000000000120001000100000000000000ffffffffffffffff00000000000000000000000000000000000000000000000000000000000000002c00000000000000aaaaaaaaaaaaaaaaaaaaaaaaaaaaaaaa0000000000000000000000000000000000000000";
+
+// The frame of one ECHO, and that of a CREATE, a QUERY_INFO and a CLOSE with bodies of 9, 0 and 1 bytes.
+const ONE: &str =
+    "00000044fe534d4240000000000000000d00200000000000000000000000000000000000000000000300000009000000000000000000000000000000000000000000000004000000";
+
+const THREE: &str =
+    "000000d1fe534d4240000000000000000500200000000000500000000100000000000000000000000300000009000000000000000000000000000000000000000000000007070707070707070700000000000000fe534d42400002000000000010002000040000004000000002000000000000000000000003000000090000000000000000000000000000000000000000000000fe534d4240000100000000000600200004000000000000000400000000000000000000000300000009000000000000000000000000000000000000000000000008";
+
+fn bytes(rt: &(impl Abort + AllocGlobal), text: &str) -> Vec<u8> {
+    match hex::decode(rt.alloc(), text) {
+        Ok(bytes) => bytes,
+        Err(_) => panic!(rt; "no hex"),
+    }
+}
+
+fn set(bytes: &mut Vec<u8>, at: usize, byte: u8) {
+    if let Some(place) = bytes.get_mut(at) {
+        *place = byte;
+    }
+}
+
+// A reply to the ECHO with this id: it grants so many credits.
+fn echoed(rt: &(impl Abort + AllocGlobal), mid: u8, credits: u8) -> Vec<u8> {
+    let mut message = bytes(rt, ECHOED);
+    set(&mut message, 24, mid);
+    set(&mut message, 14, credits);
+    message
+}
+
+// The same, and another message behind it.
+fn echoed_then(rt: &(impl Abort + AllocGlobal), mid: u8, credits: u8, next: &[u8]) -> Vec<u8> {
+    let mut frame = echoed(rt, mid, credits);
+    set(&mut frame, 20, 72);
+    let padded = frame.extend_from_slice(&[0; 4]).is_ok();
+    assert!(rt; padded && frame.extend_from_slice(next).is_ok());
+    frame
+}
+
 fn request(
     rt: &(impl Abort + AllocGlobal),
     command: u16,
@@ -27,219 +74,133 @@ fn request(
     }
 }
 
-// The header of a reply (MS-SMB2 2.2.1): command, id, status, flags and credits.
-fn head(command: u16, mid: u64, status: u32, flags: u32, credits: u16) -> [u8; 64] {
-    let mut bytes = [0u8; 64];
-    put_u32(&mut bytes, 0, 0x424D_53FE);
-    put_u16(&mut bytes, 4, 64);
-    put_u32(&mut bytes, 8, status);
-    put_u16(&mut bytes, 12, command);
-    put_u16(&mut bytes, 14, credits);
-    put_u32(&mut bytes, 16, flags);
-    put_u64(&mut bytes, 24, mid);
-    bytes
+fn echo(rt: &(impl Abort + AllocGlobal), charge: u16) -> Request {
+    request(rt, 13, charge, false, &[4, 0, 0, 0])
 }
 
-// A reply with no field (ECHO, 13): 68 bytes, padded to 72.
-fn echo(mid: u64, next: u32, credits: u16) -> [u8; 72] {
-    let mut bytes = [0u8; 72];
-    bytes[..64].copy_from_slice(&head(13, mid, 0, 1, credits));
-    put_u32(&mut bytes, 20, next);
-    put_u16(&mut bytes, 64, 4);
-    bytes
-}
-
-// An interim reply (status 0x103 with the flag ASYNC), which has the error body.
-fn interim(mid: u64) -> [u8; 72] {
-    let mut bytes = [0u8; 72];
-    bytes[..64].copy_from_slice(&head(13, mid, 0x103, 3, 2));
-    put_u16(&mut bytes, 64, 9);
-    bytes
-}
-
-// The notice that the lease with the key AA AA .. is broken to a state (MS-SMB2 2.2.23.2).
-fn notice(flags: u32, state: u32, next: u32) -> [u8; 112] {
-    let mut bytes = [0u8; 112];
-    bytes[..64].copy_from_slice(&head(18, u64::MAX, 0, 1, 1));
-    put_u32(&mut bytes, 20, next);
-    put_u16(&mut bytes, 64, 44);
-    put_u32(&mut bytes, 68, flags);
-    bytes[72..88].copy_from_slice(&[0xAA; 16]);
-    put_u32(&mut bytes, 92, state);
-    bytes
-}
-
-// An ECHO's body (MS-SMB2 2.2.28).
-const ECHO: [u8; 4] = [4, 0, 0, 0];
-
-// Puts ECHOs with these charges in flight: the first id, or None where there are too few.
-fn echoes(rt: &(impl Abort + AllocGlobal), mux: &mut Mux, charges: [u16; 3]) -> Option<u64> {
-    let requests = [
-        request(rt, 13, charges[0], false, &ECHO),
-        request(rt, 13, charges[1], true, &ECHO),
-        request(rt, 13, charges[2], true, &ECHO),
-    ];
-    assert!(rt; frame_len(&requests).is_some());
-    match mux.submit(&requests) {
-        Ok(ticket) => {
-            assert!(rt; ticket.count == 3 && ticket.frame.len() == 216);
-            Some(ticket.first.0)
-        }
+// Puts requests in flight: none where they are starved.
+fn sent(rt: &(impl Abort + AllocGlobal), mux: &mut Mux, requests: &[Request]) -> Option<Ticket> {
+    assert!(rt; !requests.is_empty() && frame_len(requests).is_some());
+    match mux.submit(requests) {
+        Ok(ticket) => Some(ticket),
         Err(SubmitFault::Starved) => None,
         Err(SubmitFault::NoMemory) => panic!(rt; "no memory"),
     }
 }
 
-// A connection with one ECHO in flight, under id 0.
-fn with_one(rt: &(impl Abort + AllocGlobal)) -> Mux {
-    let mut mux = Mux::new(rt.alloc());
-    let one = [request(rt, 13, 0, false, &ECHO)];
-    assert!(rt; frame_len(&one).is_some());
-    assert!(rt; mux.submit(&one).is_ok());
-    mux
-}
-
-// One with three in flight, under the ids 1, 2 and 3, of which the last costs two.
-fn with_three(rt: &(impl Abort + AllocGlobal)) -> Mux {
-    let mut mux = with_one(rt);
-    assert!(rt; mux.take(&echo(0, 0, 4)[..68]).is_ok());
-    assert_eq!(rt; echoes(rt, &mut mux, [0, 1, 2]), Some(1));
-    mux
-}
-
-// What a frame brings: the ids of its replies, of its interim replies, and how many notices.
-fn brought(
-    rt: &(impl Abort + AllocGlobal),
-    mux: &mut Mux,
-    frame: &[u8],
-) -> ([u64; 2], Option<u64>, usize) {
+// Whether a frame is refused with this fault.
+fn refused(mux: &mut Mux, frame: &[u8], fault: TakeFault) -> bool {
     match mux.take(frame) {
-        Ok(taken) => {
-            let mut ids = [99; 2];
-            for (id, reply) in ids.iter_mut().zip(taken.replies.as_slice()) {
-                *id = reply.mid.0;
-            }
-            let interim = match taken.interim.as_slice().first() {
-                Some(mid) => Some(mid.0),
-                None => None,
-            };
-            (ids, interim, taken.breaks.as_slice().len())
-        }
-        Err(_) => panic!(rt; "a fault"),
+        Ok(_) => false,
+        Err(named) => named == fault,
     }
 }
 
-// Two messages in one frame.
-fn both(first: &[u8], second: &[u8]) -> [u8; 256] {
-    let mut bytes = [0u8; 256];
-    let (front, back) = (first.len().min(128), second.len().min(128));
-    bytes[..front].copy_from_slice(&first[..front]);
-    bytes[front..front + back].copy_from_slice(&second[..back]);
-    bytes
+// Whether a frame brings replies to these requests, in order.
+fn brings(mux: &mut Mux, frame: &[u8], mids: &[u64]) -> bool {
+    match mux.take(frame) {
+        Ok(taken) => {
+            let replies = taken.replies.as_slice();
+            replies.len() == mids.len()
+                && replies
+                    .iter()
+                    .zip(mids)
+                    .all(|(reply, mid)| reply.mid.0 == *mid)
+        }
+        Err(_) => false,
+    }
+}
+
+// A connection with one ECHO in flight, under id 0, and one with three, under the ids 1, 2 and 3, of which the last costs two.
+fn with_one(rt: &(impl Abort + AllocGlobal)) -> Mux {
+    let mut mux = Mux::new(rt.alloc());
+    assert!(rt; sent(rt, &mut mux, &[echo(rt, 0)]).is_some());
+    mux
+}
+
+fn with_three(rt: &(impl Abort + AllocGlobal)) -> Mux {
+    let mut mux = with_one(rt);
+    assert!(rt; brings(&mut mux, &echoed(rt, 0, 4), &[0]));
+    assert!(rt; sent(rt, &mut mux, &[echo(rt, 0), echo(rt, 1), echo(rt, 2)]).is_some());
+    mux
+}
+
+// Whether requests are sent as this frame, under these ids.
+fn is_frame(
+    rt: &(impl Abort + AllocGlobal),
+    mux: &mut Mux,
+    requests: &[Request],
+    first: u64,
+    text: &str,
+) -> bool {
+    match sent(rt, mux, requests) {
+        Some(ticket) => {
+            ticket.first == Mid(first)
+                && usize::from(ticket.count) == requests.len()
+                && ticket.frame.as_slice() == bytes(rt, text).as_slice()
+        }
+        None => false,
+    }
 }
 
 #[test]
-fn a_request_is_this_frame(rt: HostRuntime) -> Result<(), Fail> {
+fn requests_are_one_frame_under_the_next_ids(rt: HostRuntime) {
     let mut mux = Mux::new(rt.alloc());
-    let one = [request(&rt, 13, 0, false, &ECHO)];
-    assert_eq!(rt; frame_len(&one), Some(68));
-    let ticket = mux.submit(&one)?;
-    assert!(rt; ticket.first == Mid(0) && ticket.count == 1);
-    let mut bytes = [0u8; 72];
-    bytes[..10].copy_from_slice(&[0, 0, 0, 68, 0xFE, 0x53, 0x4D, 0x42, 64, 0]);
-    bytes[16] = 13;
-    bytes[18] = 32;
-    bytes[40] = 3;
-    bytes[44] = 9;
-    bytes[68] = 4;
-    assert_eq!(rt; ticket.frame.as_slice(), bytes.as_slice());
+    assert!(rt; is_frame(&rt, &mut mux, &[echo(&rt, 0)], 0, ONE));
 
     // A charge of 0 uses one id too, so that none is left.
-    assert_eq!(rt; mux.submit(&one).is_err(), true);
-    Ok(())
-}
-
-#[test]
-fn requests_are_one_frame_under_the_next_ids(rt: HostRuntime) -> Result<(), Fail> {
-    let mut mux = with_one(&rt);
-    assert!(rt; mux.take(&echo(0, 0, 4)[..68]).is_ok());
+    assert!(rt; sent(&rt, &mut mux, &[echo(&rt, 0)]).is_none());
+    assert!(rt; brings(&mut mux, &echoed(&rt, 0, 4), &[0]));
     let requests = [
         request(&rt, 5, 0, false, &[7; 9]),
         request(&rt, 16, 2, true, &[]),
         request(&rt, 6, 1, true, &[8]),
     ];
     assert_eq!(rt; frame_len(&requests), Some(209));
-    let ticket = mux.submit(&requests)?;
-    assert_eq!(rt; (ticket.first, ticket.count), (Mid(1), 3));
-    let frame = ticket.frame.as_slice();
-    assert_eq!(rt; frame.len(), 213);
-    // Where each message begins, its charge, command, flag, place of the next one, and id.
-    for (at, charge, command, flag, next, mid) in [
-        (4, 0, 5, 0, 80, 1),
-        (84, 2, 16, 4, 64, 2),
-        (148, 1, 6, 4, 0, 4),
-    ] {
-        match frame.get(at..at + 32) {
-            Some(part) => {
-                assert_eq!(rt;
-                    (part[6], part[12], part[14], part[16]),
-                    (charge, command, 32, flag)
-                );
-                assert_eq!(rt; (part[20], part[24]), (next, mid));
-            }
-            None => assert!(rt; false, "a short frame"),
-        }
-    }
-    assert_eq!(rt;
-        frame.get(68..84),
-        Some([7, 7, 7, 7, 7, 7, 7, 7, 7, 0, 0, 0, 0, 0, 0, 0].as_slice())
-    );
-    assert_eq!(rt; frame.get(212..), Some([8].as_slice()));
-    assert_eq!(rt; echoes(&rt, &mut mux, [0, 0, 0]), None);
-    Ok(())
+    assert!(rt; is_frame(&rt, &mut mux, &requests, 1, THREE));
+    assert!(rt; sent(&rt, &mut mux, &[echo(&rt, 1)]).is_none());
 }
 
 #[test]
 fn replies_come_in_any_order_and_each_once(rt: HostRuntime) {
     let mut mux = with_three(&rt);
-    let first = both(&echo(3, 72, 1), &interim(1));
-    assert_eq!(rt;
-        brought(&rt, &mut mux, &first[..144]),
-        ([3, 99], Some(1), 0)
-    );
-    assert_eq!(rt; mux.take(&first[..144]).is_err(), true);
+    let frame = echoed_then(&rt, 3, 1, &bytes(&rt, PENDING));
+    match mux.take(&frame) {
+        Ok(taken) => {
+            assert!(rt; matches!(taken.replies.as_slice(), [reply] if reply.mid == Mid(3)));
+            assert!(rt; matches!(taken.interim.as_slice(), [Mid(1)]));
+        }
+        Err(_) => assert!(rt; false, "a fault"),
+    }
+    assert!(rt; refused(&mut mux, &frame, TakeFault::Stranger(Mid(3))));
 
     // A request that is answered twice in one frame is still in flight.
-    let twice = both(&echo(2, 72, 9), &echo(2, 0, 9));
-    assert!(rt; matches!(mux.take(&twice[..140]), Err(TakeFault::Stranger(Mid(2)))));
-    let second = both(&echo(2, 72, 0), &echo(1, 0, 0));
-    assert_eq!(rt; brought(&rt, &mut mux, &second[..140]), ([2, 1], None, 0));
+    let twice = echoed_then(&rt, 2, 9, &echoed(&rt, 2, 9));
+    assert!(rt; refused(&mut mux, &twice, TakeFault::Stranger(Mid(2))));
     assert!(rt;
-        matches!(
-            mux.take(&echo(1, 0, 9)[..68]),
-            Err(TakeFault::Stranger(Mid(1)))
+        brings(
+            &mut mux,
+            &echoed_then(&rt, 2, 0, &echoed(&rt, 1, 0)),
+            &[2, 1]
         )
     );
+    assert!(rt; refused(&mut mux, &echoed(&rt, 1, 9), TakeFault::Stranger(Mid(1))));
 
     // Three credits came, and the frames that were not taken granted none.
-    assert_eq!(rt; echoes(&rt, &mut mux, [1, 1, 2]), None);
-    assert_eq!(rt; echoes(&rt, &mut mux, [1, 1, 1]), Some(5));
+    assert!(rt; sent(&rt, &mut mux, &[echo(&rt, 4)]).is_none());
+    assert!(rt; sent(&rt, &mut mux, &[echo(&rt, 3)]).is_some());
 }
 
 #[test]
 fn notices_of_broken_leases_are_told(rt: HostRuntime) {
-    let mut mux = with_three(&rt);
-    let frame = both(&notice(1, 0xFFFF_FFF3, 112), &notice(0, 0, 0));
-    match mux.take(&frame[..220]) {
+    let mut mux = Mux::new(rt.alloc());
+    match mux.take(&bytes(&rt, NOTICES)) {
         Ok(taken) => match taken.breaks.as_slice() {
             [first, second] => {
-                assert_eq!(rt;
-                    (first.key, first.to, first.wants_ack),
-                    (Key([0xAA; 16]), 3, true)
-                );
-                assert_eq!(rt; (second.to, second.wants_ack), (0, false));
+                assert!(rt; first.key == Key([0xAA; 16]) && first.to == 3 && first.wants_ack);
+                assert!(rt; second.to == 0 && !second.wants_ack);
             }
-            _ => assert!(rt; false, "two notices"),
+            _ => assert!(rt; false, "not two"),
         },
         Err(_) => assert!(rt; false, "a fault"),
     }
@@ -249,7 +210,6 @@ fn notices_of_broken_leases_are_told(rt: HostRuntime) {
 #[test]
 fn the_first_bad_message_is_named_and_nothing_is_lost(rt: HostRuntime) {
     let mut mux = with_one(&rt);
-    let good = echo(0, 0, 1);
     // A place, the byte that stands there, how many bytes come, and what is said.
     for (at, byte, len, fault) in [
         (0, 0xFE, 63, Malformed::Head(HeadFault::Short)),
@@ -263,45 +223,22 @@ fn the_first_bad_message_is_named_and_nothing_is_lost(rt: HostRuntime) {
         (64, 4, 67, Malformed::Body(BodyFault::Short)),
         (8, 3, 68, Malformed::Body(BodyFault::Short)),
     ] {
-        let mut bytes = good;
-        bytes[at] = byte;
-        match bytes.get(..len) {
-            Some(frame) => match mux.take(frame) {
-                Err(TakeFault::Malformed(named)) => assert_eq!(rt; named, fault, "at {at}"),
-                _ => assert!(rt; false, "no fault at {at}"),
-            },
-            None => assert!(rt; false, "too long"),
-        }
+        let mut frame = echoed(&rt, 0, 1);
+        set(&mut frame, at, byte);
+        frame.truncate(len);
+        assert!(rt;
+            refused(&mut mux, &frame, TakeFault::Malformed(fault)),
+            "at {at}"
+        );
     }
-    assert!(rt;
-        matches!(
-            mux.take(&echo(77, 0, 1)[..68]),
-            Err(TakeFault::Stranger(Mid(77)))
-        )
-    );
-    let of_none = echo(u64::MAX, 0, 1);
-    assert!(rt;
-        matches!(
-            mux.take(&of_none[..68]),
-            Err(TakeFault::Malformed(Malformed::Body(BodyFault::Value)))
-        )
-    );
-    assert_eq!(rt; brought(&rt, &mut mux, &good[..68]), ([0, 99], None, 0));
+    assert!(rt; refused(&mut mux, &echoed(&rt, 77, 1), TakeFault::Stranger(Mid(77))));
+    assert!(rt; brings(&mut mux, &echoed(&rt, 0, 1), &[0]));
 }
 
 #[test]
 fn a_reset_begins_anew(rt: HostRuntime) {
     let mut mux = with_three(&rt);
     mux.reset();
-    assert!(rt;
-        matches!(
-            mux.take(&echo(1, 0, 1)[..68]),
-            Err(TakeFault::Stranger(Mid(1)))
-        )
-    );
-    let one = [request(&rt, 13, 0, false, &ECHO)];
-    match mux.submit(&one) {
-        Ok(ticket) => assert_eq!(rt; ticket.first, Mid(0)),
-        Err(_) => assert!(rt; false, "no id"),
-    }
+    assert!(rt; refused(&mut mux, &echoed(&rt, 1, 1), TakeFault::Stranger(Mid(1))));
+    assert!(rt; is_frame(&rt, &mut mux, &[echo(&rt, 0)], 0, ONE));
 }
