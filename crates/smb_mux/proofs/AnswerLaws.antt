@@ -1,27 +1,21 @@
 -- What the messages of a frame bring are answers to requests in flight.
-use Rattle.std.proofs.Common.{rules, ◌≡◌, ◌∙◌, ◌≢◌, refl, sym, ap, subst, inl, inr, ℕ, zero, suc, ◌+◌, ◌<◌, ◌==◌, Bool, true, false, not, ◌&&◌, ◌||◌, if◌then◌else◌, List, [], ◌∷◌, ◌++◌, length, Option, Some, None, Result, Ok, Err, arith, length-append}
-use Rattle.std.specs.List.{list_any}
-use Rattle.std.proofs.lemmas.List.Folds.{list_any-append}
+use Rattle.std.proofs.Common.{◌≡◌, ◌∙◌, ◌≢◌, refl, sym, ap, subst, inl, inr, ℕ, zero, suc, ◌+◌, ◌==◌, Bool, true, false, ◌&&◌, ◌||◌, if◌then◌else◌, List, [], ◌∷◌, ◌++◌, length, Option, Some, None, Result, Ok, Err, arith, length-append}
 use Rattle.std.proofs.lemmas.Bool.Decides.{eqb_tells}
 use Rattle.smb_head.specs.declared.head.Head.{Head}
 use Rattle.smb_head.specs.declared.head.HeadFault.{HeadFault}
 use Rattle.smb_head.specs.Header.{head_of}
-use Rattle.smb_base.specs.declared.names.Mid.{Mid}
-use Rattle.smb_chain.specs.declared.parts.BadNext.{BadNext}
 use Rattle.smb_chain.specs.Parts.{Step, Only, Then, Bad, step_of, with_rest, parts_of, parts_within}
 use Rattle.smb_credit.specs.Window.{no_request}
 use Rattle.smb_field.specs.declared.field.BodyFault.{BodyFault}
 use Rattle.smb_field.specs.declared.field.BodyFault.TheVariants as body
 use Rattle.smb_mux.specs.declared.fault.TakeFault.{TakeFault}
-use Rattle.smb_mux.specs.declared.fault.TakeFault.TheVariants as fault
-use Rattle.smb_mux.specs.declared.fault.Malformed.TheVariants as malformed
 use Rattle.smb_mux.specs.declared.taken.Reply.{Reply}
 use Rattle.smb_mux.specs.declared.taken.BreakNote.{BreakNote}
 use Rattle.smb_mux.specs.declared.taken.Taken.{Taken}
 use Rattle.smb_mux.specs.declared.look.Look.{Look}
 use Rattle.smb_mux.specs.declared.look.Look.TheVariants as look
 use Rattle.smb_mux.specs.Bodies.{error_fault, reply_fault}
-use Rattle.smb_mux.specs.Judged.{has, nothing, command_at, is_answered, awaited_command, is_interim, notice_in, wrong, if_sound, looked_reply, looked_for, looked_notice, looked, look_with, look_of, added, on_with, judged_by, judged_within, judged_from, judged}
+use Rattle.smb_mux.specs.Judged.{has, nothing, command_at, is_answered, awaited_command, is_interim, notice_in, wrong, if_sound, looked_reply, looked_for, looked_notice, look_with, look_of, added, on_with, judged_by, judged_within, judged_from, judged}
 use Rattle.smb_mux.specs.Answers.{IsAnswerTo, AreAnswers, messages_of}
 
 -- ---- one message

@@ -1,5 +1,5 @@
 -- The variable part of a body.
-use Rattle.std.proofs.Common.{◌≡◌, ◌∙◌, refl, sym, ap, ℕ, zero, suc, ◌+◌, ◌-◌, ◌<◌, ◌≤◌, List, [], ◌∷◌, length, slice_range, take, drop, arith, add-zero}
+use Rattle.std.proofs.Common.{◌≡◌, ◌∙◌, refl, ap, ℕ, ◌+◌, ◌-◌, ◌<◌, List, [], ◌∷◌, length, slice_range, take, drop, arith}
 use Rattle.smb_field.specs.Body.{Lends}
 
 take_none : (l : List ℕ) → take 0 l ≡ []

@@ -1,5 +1,5 @@
 -- The messages of a frame, one step on.
-use Rattle.std.proofs.Common.{rules, ◌≡◌, ◌∙◌, refl, sym, ap, ℕ, zero, suc, ◌<◌, List, length, Option, Some, None, Result, Ok, Err, arith, Bor}
+use Rattle.std.proofs.Common.{◌≡◌, ◌∙◌, refl, sym, ap, ℕ, zero, suc, ◌<◌, List, length, Option, Some, None, Result, Ok, Err, arith, Bor}
 use Rattle.smb_head.specs.declared.head.Head.{Head}
 use Rattle.smb_head.specs.declared.head.HeadFault.{HeadFault}
 use Rattle.smb_head.specs.Header.{head_of}
@@ -10,7 +10,7 @@ use Rattle.smb_mux.specs.declared.fault.TakeFault.TheVariants as fault
 use Rattle.smb_mux.specs.declared.fault.Malformed.TheVariants as malformed
 use Rattle.smb_mux.specs.declared.taken.Taken.{Taken}
 use Rattle.smb_mux.specs.declared.look.Look.{Look}
-use Rattle.smb_mux.specs.Judged.{look_of, added, on_with, judged_by, judged_within, judged_from, next_of, seen_next, others_left, IsAnswer, Walks}
+use Rattle.smb_mux.specs.Judged.{look_of, added, on_with, judged_by, judged_within, judged_from, next_of, others_left, IsAnswer}
 
 on_same : (r : Result Taken TakeFault) (f g : Taken → Result Taken TakeFault) → ((now : Taken) → f now ≡ g now) → on_with r f ≡ on_with r g
 on_same (Err e) f g same = refl

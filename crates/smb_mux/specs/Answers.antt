@@ -1,5 +1,5 @@
 -- What the replies that a frame brings are: each is the final reply to a request in flight, and no two answer one request.
-use Rattle.std.specs.Prelude.{◌≡◌, ◌+◌, ℕ, true, false, if◌then◌else◌, List, [], ◌∷◌, length, Option, Some, None, Result, Ok, Err}
+use Rattle.std.specs.Prelude.{◌≡◌, ◌+◌, ℕ, true, false, if◌then◌else◌, List, [], ◌∷◌, length, Some, None, Ok}
 use Rattle.smb_head.specs.declared.head.Head.{Head}
 use Rattle.smb_head.specs.Header.{head_of}
 use Rattle.smb_mux.specs.declared.taken.Reply.{Reply}

@@ -1,8 +1,8 @@
 -- What the messages of a frame are to a client with requests in flight (MS-SMB2 3.2.5.1). They are judged one after the other, and the
 -- first one with a fault decides.
-use Rattle.std.specs.Prelude.{◌≡◌, ◌<◌, ℕ, zero, suc, ◌==◌, Bool, true, false, not, ◌&&◌, ◌||◌, if◌then◌else◌, bit_and, List, [], ◌∷◌, ◌++◌, length, slice_range, Option, Some, None, Result, Ok, Err}
+use Rattle.std.specs.Prelude.{◌≡◌, ℕ, zero, suc, ◌==◌, Bool, true, false, not, ◌&&◌, if◌then◌else◌, bit_and, List, [], ◌∷◌, ◌++◌, length, slice_range, Option, Some, None, Result, Ok, Err}
 use Rattle.std.specs.List.{list_any}
-use Rattle.std.specs.Map.{lookup, remove_entry}
+use Rattle.std.specs.Map.{lookup}
 use Rattle.std.specs.BTreeMap.{is_at}
 use Rattle.std.specs.Ordering.{nat_cmp}
 use Rattle.smb_le.specs.Numbers.{number_at}
@@ -13,7 +13,6 @@ use Rattle.smb_chain.specs.Parts.{Step, Only, Then, Bad, step_of, step_from}
 use Rattle.smb_credit.specs.Window.{no_request}
 use Rattle.smb_field.specs.declared.field.BodyFault.{BodyFault}
 use Rattle.smb_field.specs.declared.field.BodyFault.TheVariants as body
-use Rattle.smb_mux.specs.declared.fault.Malformed.{Malformed}
 use Rattle.smb_mux.specs.declared.fault.Malformed.TheVariants as malformed
 use Rattle.smb_mux.specs.declared.fault.TakeFault.{TakeFault}
 use Rattle.smb_mux.specs.declared.fault.TakeFault.TheVariants as fault

@@ -1,4 +1,3 @@
-use Rattle.std.proofs.Common.{◌≡◌, ◌∙◌, sym}
 use Rattle.smb_mux.proofs.JudgeLaws.{walk_none, walk_with, walk_fault}
 use Rattle.smb_mux.proofs.judge.step.Goals as goal
 

@@ -1,9 +1,9 @@
-use Rattle.std.proofs.Common.{arith, ◌≡◌, ◌∙◌, ◌+◌, ◌<◌, ◌≤◌, ◌∷◌, ◌++◌, List, ℕ, length, drop, take, ap, sym, subst, refl, length-append}
+use Rattle.std.proofs.Common.{arith, ◌≡◌, ◌∙◌, ◌+◌, ◌∷◌, ℕ, length, drop, take, ap, sym, subst, refl, length-append}
 use Rattle.std.proofs.lemmas.List.{drop_more}
 use Rattle.smb_head.specs.declared.request.Request.{Request}
-use Rattle.smb_credit.specs.Window.{Ids, cost, after_use, numbers}
+use Rattle.smb_credit.specs.Window.{cost, after_use, numbers}
 use Rattle.smb_credit.proofs.WindowLaws.{length-numbers}
-use Rattle.smb_mux.specs.Sending.{costs, ids_after, flights_of}
+use Rattle.smb_mux.specs.Sending.{costs}
 use Rattle.smb_mux.specs.InFlight.{AreBelow}
 use Rattle.smb_mux.proofs.SendLaws.{ids_after-more}
 use Rattle.smb_mux.proofs.FlightLaws.{flown, flown_below, flown_long, first_ones}

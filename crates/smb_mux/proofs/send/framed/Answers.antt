@@ -1,7 +1,7 @@
-use Rattle.std.proofs.Common.{rules, ◌≡◌, ◌∙◌, ◌++◌, List, ℕ, length, sym, ap}
-use Rattle.smb_head.specs.Stream.{prefix, frame}
+use Rattle.std.proofs.Common.{rules, ◌≡◌, ◌∙◌, ◌++◌, List, ℕ, sym, ap}
+use Rattle.smb_head.specs.Stream.{prefix}
 use Rattle.smb_chain.specs.Chain.{chain}
-use Rattle.smb_mux.specs.Sending.{placed, room_of}
+use Rattle.smb_mux.specs.Sending.{placed}
 use Rattle.smb_mux.proofs.SendLaws.{length-frame}
 use Rattle.smb_mux.proofs.send.framed.Goals as goal
 

@@ -1,11 +1,11 @@
-use Rattle.std.proofs.Common.{arith, ◌≡◌, ◌∙◌, ◌+◌, ◌∷◌, ◌++◌, List, ℕ, length, drop, ap, sym}
+use Rattle.std.proofs.Common.{arith, ◌≡◌, ◌∙◌, ◌+◌, ◌∷◌, ◌++◌, List, ℕ, drop, ap, sym}
 use Rattle.std.proofs.lemmas.List.{drop_more, at_drop_all, append-nil}
 use Rattle.smb_head.specs.declared.request.Request.{Request}
 use Rattle.smb_chain.specs.Chain.{chain}
 use Rattle.smb_chain.proofs.ChainLaws.{chain-nil}
-use Rattle.smb_credit.specs.Window.{cost, after_use}
+use Rattle.smb_credit.specs.Window.{after_use}
 use Rattle.smb_mux.specs.Sending.{placed, costs, room_of}
-use Rattle.smb_mux.proofs.SendLaws.{room-step, room-least, written-more}
+use Rattle.smb_mux.proofs.SendLaws.{room-step, written-more}
 use Rattle.smb_mux.proofs.send.put_requests.Goals as goal
 
 pub loop-i-preserved : goal.loop-i-preserved

@@ -1,4 +1,4 @@
-use Rattle.std.proofs.Common.{arith, ◌≡◌, ◌∙◌, ◌≤◌, ◌<◌, List, ℕ, Ok, map, drop, length, ap}
+use Rattle.std.proofs.Common.{arith, ◌∙◌, List, ℕ, Ok, map, drop, length, ap}
 use Rattle.smb_chain.specs.Chain.{parts_for}
 use Rattle.smb_chain.specs.Parts.{parts_of}
 use Rattle.smb_chain.proofs.ChainLaws.{parts_of-chain}

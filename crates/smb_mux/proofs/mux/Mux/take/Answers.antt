@@ -1,4 +1,4 @@
-use Rattle.std.proofs.Common.{◌≡◌, ◌∙◌, ℕ, List, length, sym, ap, subst}
+use Rattle.std.proofs.Common.{◌∙◌, ℕ, List, length, sym, ap, subst}
 use Rattle.smb_mux.specs.InFlight.{InFlight, AreBelow}
 use Rattle.smb_mux.specs.Judged.{judged}
 use Rattle.smb_mux.proofs.AnswerLaws.{answers_given}
