@@ -1,11 +1,14 @@
-//! Kernels whose time matters, measured. Without a word it runs each over one MiB and prints what it did; with `times MIB` it runs each
-//! over so many MiB (1 to 1,024) and prints how long it took beside a plain copy of the same bytes.
+//! Kernels whose time matters, measured. Without a word it runs each over one MiB, or a thousand requests, and prints what it did, and
+//! takes a million frames that no server sends; with `times MIB` it runs each over so many MiB (1 to 1,024), or thousands of requests, and
+//! prints how long it took, beside a plain copy of the same bytes where bytes are moved.
 #![tactic(auto)]
 
 mod frames;
+mod requests;
 
 use anyhow::{Context, Result, ensure};
 use frames::{copied, stream_of, through_frames};
+use requests::{echoing, exchanged, hostile};
 use std::env;
 use std::rt::{Clock, Env};
 use std::time::Instant;
@@ -17,6 +20,14 @@ const CUTS: [(usize, usize); 4] = [
     (64, 65_536),
     (1_048_576, 1_460),
 ];
+
+// How many requests are in flight.
+const IN_FLIGHT: [u16; 4] = [1, 16, 256, 4_096];
+
+// How many frames that no server sends are taken, and the number that they are drawn from.
+const HOSTILE: u32 = 1_000_000;
+
+const SEED: u64 = 2026;
 
 fn main(rt: HostRuntime) -> Result<()> {
     match mebibytes(&rt)? {
@@ -47,6 +58,17 @@ fn counts(rt: &(impl Print + AllocGlobal)) -> Result<()> {
             "frames of {frame} in pieces of {piece}: {count} frames, {length} bytes of stream"
         )?;
     }
+    for many in IN_FLIGHT {
+        let mut mux = echoing(rt.alloc(), many)?;
+        let count = exchanged(rt.alloc(), &mut mux, 1_000)?;
+        println!(rt; "{many} requests in flight: {count} more sent and answered")?;
+    }
+    let answers = hostile(rt.alloc(), SEED, HOSTILE)?;
+    ensure!(
+        0 < answers.taken && 0 < answers.malformed && 0 < answers.strangers,
+        "the frames that no server sends are all alike"
+    );
+    println!(rt; "{HOSTILE} frames that no server sends: each taken, malformed or a stranger's")?;
     Ok(())
 }
 
@@ -65,6 +87,17 @@ fn times(rt: &(impl Print + Clock + AllocGlobal), mib: u32) -> Result<()> {
             ours / 1000,
             plain / 1000,
             hundredths(ours, plain)
+        )?;
+    }
+    for many in IN_FLIGHT {
+        let mut mux = echoing(rt.alloc(), many)?;
+        let start = Instant::now(rt)?;
+        let count = exchanged(rt.alloc(), &mut mux, mib * 1_000)?;
+        let ours = start.elapsed(rt)?.as_micros();
+        println!(rt;
+            "{many} requests in flight: {count} more sent and answered, {} ms, {} ns each",
+            ours / 1000,
+            ours.saturating_mul(1000) / u128::from(count.max(1))
         )?;
     }
     Ok(())
