@@ -3,3 +3,4 @@ pub mod JudgeLaws
 pub mod SendLaws
 pub mod FlightLaws
 pub mod AnswerLaws
+pub mod Examples
