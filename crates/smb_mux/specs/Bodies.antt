@@ -1,6 +1,7 @@
 -- The bodies of replies (MS-SMB2 2.2), each counted from the header of its message: what is wrong with one, if anything is.
 use Rattle.std.specs.Prelude.{ℕ, ◌+◌, ◌==◌, Bool, true, false, not, ◌&&◌, ◌||◌, nat_lt, if◌then◌else◌, List, length, slice_index, slice_range, Option, Some, None, Result, Ok, Err}
 use Rattle.smb_le.specs.Numbers.{number_at}
+use Rattle.smb_head.specs.declared.command.TheConstants.{NEGOTIATE, SESSION_SETUP, LOGOFF, TREE_CONNECT, TREE_DISCONNECT, CREATE, CLOSE, FLUSH, READ, WRITE, LOCK, ECHO, QUERY_DIRECTORY, QUERY_INFO, SET_INFO, OPLOCK_BREAK}
 use Rattle.smb_field.specs.declared.field.BodyFault.{BodyFault}
 use Rattle.smb_field.specs.declared.field.BodyFault.TheVariants.{Short, Size, Value, Offset}
 use Rattle.smb_field.specs.Body.{end_of_fixed}
@@ -55,35 +56,36 @@ create_fault message =
 -- the reply of success to a request of the connection: NEGOTIATE, SESSION_SETUP, TREE_CONNECT (2.2.10); no other is known
 abbrev pub connection_fault : ℕ → List ℕ → Option BodyFault
 connection_fault command message =
-    if command == 0 then negotiate_fault message
-    else (if command == 1 then session_fault message else (if command == 3 then fault_of 16 false message else Some Value))
+    if command == NEGOTIATE then negotiate_fault message
+    else (if command == SESSION_SETUP then session_fault message else (if command == TREE_CONNECT then fault_of 16 false message else Some Value))
 
 -- to one that moves bytes or entries of a directory, or asks for information: READ, WRITE (2.2.22), QUERY_DIRECTORY, QUERY_INFO,
 -- SET_INFO (2.2.40), and the acknowledgement of a broken lease (2.2.25.2)
 abbrev pub content_fault : ℕ → List ℕ → Option BodyFault
 content_fault command message =
-    if command == 8 then read_fault message
-    else (if command == 9 then fault_of 17 false message
-    else (if command == 14 || command == 16 then buffer_fault message
-    else (if command == 17 then fault_of 2 false message
-    else (if command == 18 then fault_of 36 false message else connection_fault command message))))
+    if command == READ then read_fault message
+    else (if command == WRITE then fault_of 17 false message
+    else (if command == QUERY_DIRECTORY || command == QUERY_INFO then buffer_fault message
+    else (if command == SET_INFO then fault_of 2 false message
+    else (if command == OPLOCK_BREAK then fault_of 36 false message else connection_fault command message))))
 
 -- LOGOFF, TREE_DISCONNECT, FLUSH, LOCK and ECHO are answered alike, with no field
 abbrev pub is_empty_reply : ℕ → Bool
-is_empty_reply command = command == 2 || command == 4 || command == 7 || command == 10 || command == 13
+is_empty_reply command =
+    command == LOGOFF || command == TREE_DISCONNECT || command == FLUSH || command == LOCK || command == ECHO
 
 -- the reply of success to a request of this command
 abbrev pub done_fault : ℕ → List ℕ → Option BodyFault
 done_fault command message =
-    if command == 5 then create_fault message
-    else (if command == 6 then fault_of 60 false message
+    if command == CREATE then create_fault message
+    else (if command == CLOSE then fault_of 60 false message
     else (if is_empty_reply command then fault_of 4 false message else content_fault command message))
 
 -- a reply of this status has the body of its command: success, a query that knows more than was asked for (BUFFER_OVERFLOW), a session
 -- that needs one more message (MORE_PROCESSING_REQUIRED)
 abbrev pub is_done : ℕ → ℕ → Bool
 is_done status command =
-    status == 0 || (status == 0x80000005 && command == 16) || (status == 0xC0000016 && command == 1)
+    status == 0 || (status == 0x80000005 && command == QUERY_INFO) || (status == 0xC0000016 && command == SESSION_SETUP)
 
 -- every other status has the error body
 abbrev pub reply_fault : ℕ → ℕ → List ℕ → Option BodyFault

@@ -6,6 +6,7 @@ use Rattle.std.specs.Map.{lookup}
 use Rattle.std.specs.BTreeMap.{is_at}
 use Rattle.std.specs.Ordering.{nat_cmp}
 use Rattle.smb_le.specs.Numbers.{number_at}
+use Rattle.smb_head.specs.declared.command.TheConstants.{OPLOCK_BREAK}
 use Rattle.smb_head.specs.declared.head.Head.{Head}
 use Rattle.smb_head.specs.declared.head.HeadFault.{HeadFault}
 use Rattle.smb_head.specs.Header.{head_of}
@@ -54,7 +55,7 @@ is_sound None = true
 is_sound (Some fault) = false
 
 abbrev pub is_notice : Head → List ℕ → Bool
-is_notice head message = head.command == 18 && has head.flags.0 1 && head.status.0 == 0 && is_sound (fault_of 44 false message)
+is_notice head message = head.command == OPLOCK_BREAK && has head.flags.0 1 && head.status.0 == 0 && is_sound (fault_of 44 false message)
 
 abbrev pub note_of : List ℕ → BreakNote
 note_of message = record {

@@ -13,39 +13,10 @@ use smb_body_b::{
 };
 use smb_body_c::{read_buffer_reply, read_error_reply, read_lease_ack, read_set_info_reply};
 use smb_field::BodyFault;
-
-// The commands (MS-SMB2 2.2.1.2).
-const NEGOTIATE: u16 = 0;
-
-const SESSION_SETUP: u16 = 1;
-
-const LOGOFF: u16 = 2;
-
-const TREE_CONNECT: u16 = 3;
-
-const TREE_DISCONNECT: u16 = 4;
-
-const CREATE: u16 = 5;
-
-const CLOSE: u16 = 6;
-
-const FLUSH: u16 = 7;
-
-const READ: u16 = 8;
-
-const WRITE: u16 = 9;
-
-const LOCK: u16 = 10;
-
-const ECHO: u16 = 13;
-
-const QUERY_DIRECTORY: u16 = 14;
-
-const QUERY_INFO: u16 = 16;
-
-const SET_INFO: u16 = 17;
-
-pub(crate) const OPLOCK_BREAK: u16 = 18;
+use smb_head::command::{
+    CLOSE, CREATE, ECHO, FLUSH, LOCK, LOGOFF, NEGOTIATE, OPLOCK_BREAK, QUERY_DIRECTORY, QUERY_INFO,
+    READ, SESSION_SETUP, SET_INFO, TREE_CONNECT, TREE_DISCONNECT, WRITE,
+};
 
 // What is wrong with a reply of this status to this command.
 pub(crate) fn reply_fault(status: Status, command: u16, part: &[u8]) -> Option<BodyFault>

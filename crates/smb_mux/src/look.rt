@@ -3,7 +3,7 @@
 ghost use Rattle.std.specs.Prelude.{◌≡◌, Some};
 ghost use Rattle.smb_mux.specs.Judged.{is_interim, notice_in, looked, looked_for, wrong, if_sound};
 
-use crate::bodies::{OPLOCK_BREAK, error_fault, reply_fault};
+use crate::bodies::{error_fault, reply_fault};
 use crate::fault::{Malformed, TakeFault};
 use crate::taken::BreakNote;
 use bitflags::Flags;
@@ -12,6 +12,7 @@ use smb_body_c::read_lease_break;
 use smb_credit::NO_REQUEST;
 use smb_field::BodyFault;
 use smb_head::Head;
+use smb_head::command::OPLOCK_BREAK;
 use smb_le::HeadFlags;
 
 /// The flag of a notice that wants to be acknowledged (MS-SMB2 2.2.23.2).
