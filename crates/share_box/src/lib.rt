@@ -9,8 +9,6 @@ mod schedule;
 mod sending;
 mod serving;
 mod state;
-#[cfg(test)]
-mod tests;
 mod turns;
 mod waiting;
 

@@ -5,8 +5,6 @@
 mod empty;
 mod negotiate;
 mod session;
-#[cfg(test)]
-mod tests;
 mod tree;
 
 pub use empty::{Empty, read_empty, write_empty};

@@ -7,8 +7,6 @@ mod contexts;
 mod create;
 mod flush;
 mod read;
-#[cfg(test)]
-mod tests;
 mod write;
 
 pub use close::{

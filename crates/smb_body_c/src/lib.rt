@@ -7,8 +7,6 @@ mod error;
 mod info;
 mod lease;
 mod lock;
-#[cfg(test)]
-mod tests;
 
 pub use directory::{
     BufferReply, QueryDirectoryRequest, read_buffer_reply, read_query_directory_request,

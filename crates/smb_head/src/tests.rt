@@ -2,7 +2,7 @@
 //! fault.
 
 use super::*;
-use smb_base::{Bytes, Mid, Status};
+use smb_base::{Mid, Status};
 use smb_le::HeadFlags;
 use std::test::Fail;
 
@@ -40,32 +40,6 @@ fn a_head_is_written_and_read(rt: HostRuntime) -> Result<(), Fail> {
     };
     assert!(rt; !lost.is_routed());
     assert_eq!(rt; read_head(&[]), Err(HeadFault::Short));
-    Ok(())
-}
-
-#[test]
-fn frames_are_the_same_for_every_cutting(rt: HostRuntime) -> Result<(), Fail> {
-    // two messages of 1 and 3 bytes, and two bytes of a third frame
-    let stream = [0, 0, 0, 1, 77, 0, 0, 0, 3, 1, 2, 3, 0, 0];
-    for at in 1..15usize {
-        let mut pieces = Vec::new(rt.alloc());
-        for piece in stream.chunks(at) {
-            pieces.push(Bytes::of(rt.alloc(), piece)?)?;
-        }
-        let received = frames_of(rt.alloc(), &pieces)?;
-        assert_eq!(rt; received.frames.len(), 2, "in pieces of {at}");
-        assert_eq!(rt;
-            received.frames[0].as_slice(),
-            [77].as_slice(),
-            "in pieces of {at}"
-        );
-        assert_eq!(rt;
-            received.frames[1].as_slice(),
-            [1, 2, 3].as_slice(),
-            "in pieces of {at}"
-        );
-        assert_eq!(rt; received.fault, None);
-    }
     Ok(())
 }
 
