@@ -11,11 +11,7 @@ mod print;
 mod request;
 mod run;
 mod run_end;
-#[cfg(test)]
-mod run_end_tests;
 mod stat;
-#[cfg(test)]
-mod tests;
 mod top;
 mod verdict;
 mod words;

@@ -11,6 +11,3 @@ pub use first::{FrameFault, MAX_FRAME, first_frame, frame_lacks, frame_start};
 pub use frames::{Frames, Received, frames_of};
 pub use head::{Head, HeadFault, Route, read_head, write_head};
 pub use request::Request;
-
-#[cfg(test)]
-mod tests;
