@@ -61,12 +61,18 @@ fn run_over_share(alloc: Global, row: &Row, link: &mut BoxLink) -> Result<Vec<u8
 
 /// The story of a share's link that takes these steps.
 fn use_share(alloc: Global, steps: &Vec<Step>, link: &mut BoxLink, size: usize) -> Result<Vec<u8>> {
-    for step in steps {
-        take_step(alloc, link, step, size)?;
-    }
+    take_steps(alloc, steps, link, size)?;
     let mut text = Vec::new(alloc);
     tell(alloc, link.story().as_slice(), &mut text)?;
     Ok(text)
+}
+
+/// Takes these steps at a link.
+fn take_steps<L: Link>(alloc: Global, steps: &Vec<Step>, link: &mut L, size: usize) -> Result<()> {
+    for step in steps {
+        take_step(alloc, link, step, size)?;
+    }
+    Ok(())
 }
 
 /// The program's run over this link: its status, and what it printed.
@@ -109,8 +115,8 @@ fn give(alloc: Global, bytes: &[u8], size: usize, turns: &mut GivenList) -> Resu
     Ok(())
 }
 
-/// Takes a step at the link of a share.
-fn take_step(alloc: Global, link: &mut BoxLink, step: &Step, size: usize) -> Result<()> {
+/// Takes a step at a link.
+fn take_step<L: Link>(alloc: Global, link: &mut L, step: &Step, size: usize) -> Result<()> {
     let done = match step {
         Step::Connect => link.connect("h", 445),
         Step::Send(bytes) => link.send(bytes),
@@ -125,7 +131,7 @@ fn take_step(alloc: Global, link: &mut BoxLink, step: &Step, size: usize) -> Res
 }
 
 /// Receives bytes, so many at most at a time, until a frame is whole or nothing comes.
-fn receive(alloc: Global, link: &mut BoxLink, size: usize) -> Result<()> {
+fn receive<L: Link>(alloc: Global, link: &mut L, size: usize) -> Result<()> {
     let mut bytes = Vec::new(alloc);
     for _ in 0..RECEIVES {
         if !receive_once(alloc, link, size, &mut bytes)? || is_whole(&bytes) {
@@ -136,9 +142,9 @@ fn receive(alloc: Global, link: &mut BoxLink, size: usize) -> Result<()> {
 }
 
 /// Receives bytes once, so many at most, and adds them. It answers `false` where nothing comes.
-fn receive_once(
+fn receive_once<L: Link>(
     alloc: Global,
-    link: &mut BoxLink,
+    link: &mut L,
     size: usize,
     bytes: &mut Vec<u8>,
 ) -> Result<bool> {
