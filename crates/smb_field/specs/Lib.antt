@@ -1,4 +1,5 @@
 pub mod Fields
 pub mod Body
+pub mod Faults
 pub mod TwoParts
 pub mod Structure

@@ -1,5 +1,5 @@
 -- The header that begins each message (MS-SMB2 2.2.1.1 and 2.2.1.2): 64 bytes, every number with its lowest byte first.
-use Rattle.std.specs.Prelude.{◌≡◌, ◌==◌, ◌^◌, ◌<◌, ◌≤◌, ℕ, Bool, true, false, List, ◌++◌, length, replicate, bit_and, nat_lt, if◌then◌else◌, Result, Ok, Err}
+use Rattle.std.specs.Prelude.{◌≡◌, ◌==◌, ◌^◌, ◌<◌, ◌≤◌, ℕ, Bool, true, false, not, ◌&&◌, List, ◌++◌, length, replicate, bit_and, nat_lt, if◌then◌else◌, Result, Ok, Err}
 use Rattle.smb_le.specs.Numbers.{number_at, bytes_of}
 use Rattle.smb_head.specs.declared.head.TheConstants.{PROTOCOL}
 use Rattle.smb_head.specs.declared.head.Head.{Head}
@@ -80,3 +80,19 @@ pub record FitsHeader (head : Head) : Type 0 where
   pub mid : head.mid.0 < 2 ^ 64
   pub route : FitsRoute head.route
   pub session : head.session < 2 ^ 64
+
+-- a number has one of these bits
+abbrev pub has : ℕ → ℕ → Bool
+has number bits = not (bit_and number bits == 0)
+
+-- what a server sends has the flag of replies (SERVER_TO_REDIR)
+abbrev pub is_reply : Head → Bool
+is_reply head = has head.flags.0 1
+
+-- an interim reply (MS-SMB2 3.3.4.2): STATUS_PENDING with the flag ASYNC
+abbrev pub is_interim : Head → Bool
+is_interim head = head.status.0 == 0x103 && has head.flags.0 2
+
+-- of this command, with the flag of replies
+abbrev pub is_reply_to : ℕ → Head → Bool
+is_reply_to command head = head.command == command && is_reply head

@@ -1,7 +1,7 @@
 //! The header of a message.
 
 ghost use Rattle.std.specs.Prelude.{◌≡◌, ◌↔◌, ◌≤◌, ◌++◌, ℕ, List, length, IfOk, OnOk, OnErr, IsTrue};
-ghost use Rattle.smb_head.specs.Header.{FitsHeader, IsHeader, IsRouted, head_of, head_at, route_at, header};
+ghost use Rattle.smb_head.specs.Header.{FitsHeader, IsHeader, IsRouted, head_of, head_at, route_at, header, is_reply, is_reply_to, is_interim};
 ghost use Rattle.smb_head.specs.declared.head.Head.{Head};
 
 use bitflags::Flags;
@@ -53,6 +53,27 @@ impl Head {
             Route::Sync(_) => !self.flags.contains(HeadFlags::ASYNC),
             Route::Async(_) => self.flags.contains(HeadFlags::ASYNC),
         }
+    }
+
+    /// Whether a server sent the message: it has the flag of replies (MS-SMB2 2.2.1.2).
+    pub fn is_reply(&self) -> bool
+        ensures { result ≡ is_reply self.now }
+    {
+        self.flags.contains(HeadFlags::REPLY)
+    }
+
+    /// Whether it is a reply to a request of this command.
+    pub fn is_reply_to(&self, command: u16) -> bool
+        ensures { result ≡ is_reply_to command self.now }
+    {
+        self.command == command && self.is_reply()
+    }
+
+    /// Whether it is an interim reply: STATUS_PENDING with the flag ASYNC (MS-SMB2 3.3.4.2). The final one is still to come.
+    pub fn is_interim(&self) -> bool
+        ensures { result ≡ is_interim self.now }
+    {
+        self.status == Status::PENDING && self.flags.0 & HeadFlags::ASYNC.0 != 0
     }
 }
 

@@ -3,7 +3,7 @@ use Rattle.std.proofs.Common.{◌≡◌, ◌∙◌, ◌≢◌, refl, sym, ap, su
 use Rattle.std.proofs.lemmas.Bool.Decides.{eqb_tells}
 use Rattle.smb_head.specs.declared.head.Head.{Head}
 use Rattle.smb_head.specs.declared.head.HeadFault.{HeadFault}
-use Rattle.smb_head.specs.Header.{head_of}
+use Rattle.smb_head.specs.Header.{head_of, is_reply, is_interim}
 use Rattle.smb_chain.specs.Parts.{Step, Only, Then, Bad, step_of, with_rest, parts_of, parts_within}
 use Rattle.smb_credit.specs.Window.{no_request}
 use Rattle.smb_field.specs.declared.field.BodyFault.{BodyFault}
@@ -14,8 +14,9 @@ use Rattle.smb_mux.specs.declared.taken.BreakNote.{BreakNote}
 use Rattle.smb_mux.specs.declared.taken.Taken.{Taken}
 use Rattle.smb_mux.specs.declared.look.Look.{Look}
 use Rattle.smb_mux.specs.declared.look.Look.TheVariants as look
-use Rattle.smb_mux.specs.Bodies.{error_fault, reply_fault}
-use Rattle.smb_mux.specs.Judged.{has, nothing, command_at, is_answered, awaited_command, is_interim, notice_in, wrong, if_sound, looked_reply, looked_for, looked_notice, look_with, look_of, added, on_with, judged_by, judged_within, judged_from, judged}
+use Rattle.smb_field.specs.Faults.{error_fault}
+use Rattle.smb_mux.specs.Bodies.{reply_fault}
+use Rattle.smb_mux.specs.Judged.{nothing, command_at, is_answered, awaited_command, notice_in, wrong, if_sound, looked_reply, looked_for, looked_notice, look_with, look_of, added, on_with, judged_by, judged_within, judged_from, judged}
 use Rattle.smb_mux.specs.Answers.{IsAnswerTo, AreAnswers, messages_of}
 
 -- ---- one message
@@ -32,7 +33,7 @@ right_sound awaited taken part l None is = is refl
 right_sound awaited taken part l (Some f) is = tt
 
 right_reply : (awaited : List (ℕ × ℕ)) (taken : Taken) (part : List ℕ) (head : Head) (t : Bool) → is_interim head ≡ t → head_of part ≡ Ok head
-    → command_at awaited head.mid.0 ≡ Some head.command → is_answered taken.replies head.mid.0 ≡ false → has head.flags.0 1 ≡ true
+    → command_at awaited head.mid.0 ≡ Some head.command → is_answered taken.replies head.mid.0 ≡ false → is_reply head ≡ true
     → IsRight awaited taken part (if t then if_sound (look.Interim head.mid) (error_fault part) else if_sound (look.Final head.mid) (reply_fault head.status.0 head.command part))
 right_reply awaited taken part head true is headed command open_ flagged = right_sound awaited taken part (look.Interim head.mid) (error_fault part) (λ sound. tt)
 right_reply awaited taken part head false is headed command open_ flagged =
@@ -51,11 +52,11 @@ both true true is = (refl, refl)
 both true false is = absurd (cc)
 both false t is = absurd (cc)
 
-right_command : (awaited : List (ℕ × ℕ)) (taken : Taken) (part : List ℕ) (head : Head) (command : ℕ) (t : Bool) → (head.command == command && has head.flags.0 1) ≡ t → head_of part ≡ Ok head
+right_command : (awaited : List (ℕ × ℕ)) (taken : Taken) (part : List ℕ) (head : Head) (command : ℕ) (t : Bool) → (head.command == command && is_reply head) ≡ t → head_of part ≡ Ok head
     → awaited_command awaited taken head.mid.0 ≡ Some command → IsRight awaited taken part (if t then looked_reply head part else wrong body.Value)
 right_command awaited taken part head command false is headed known = tt
 right_command awaited taken part head command true is headed known =
-    let two = both (head.command == command) (has head.flags.0 1) is in
+    let two = both (head.command == command) (is_reply head) is in
     let same : head.command ≡ command = elim (eqb_tells head.command command) as (λ _. head.command ≡ command) [ inl p ↦ p.1 | inr p ↦ absurd (different (head.command == command) p.0 two.0) ] in
     let found = unanswered (is_answered taken.replies head.mid.0) (command_at awaited head.mid.0) command known in
     right_reply awaited taken part head (is_interim head) refl headed (found.1 ∙ ap (λ (n : ℕ). Some n) (sym same)) found.0 two.1
@@ -67,7 +68,7 @@ right_for : (awaited : List (ℕ × ℕ)) (taken : Taken) (part : List ℕ) (hea
     → IsRight awaited taken part (looked_for o head part)
 right_for awaited taken part head None is headed = tt
 right_for awaited taken part head (Some command) is headed =
-    right_command awaited taken part head command (head.command == command && has head.flags.0 1) refl headed is
+    right_command awaited taken part head command (head.command == command && is_reply head) refl headed is
 
 right_notice : (awaited : List (ℕ × ℕ)) (taken : Taken) (part : List ℕ) (o : Option BreakNote) → IsRight awaited taken part (looked_notice o)
 right_notice awaited taken part None = tt

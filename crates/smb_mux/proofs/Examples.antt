@@ -1,19 +1,16 @@
 -- The definitions at examples.
-use Rattle.std.proofs.Common.{◌≡◌, refl, ◌++◌, ◌∷◌, [], ℕ, List, map, false, true, replicate, Result, Ok, Err, Some}
-use Rattle.smb_base.specs.declared.names.Mid.{Mid}
+use Rattle.std.proofs.Common.{◌≡◌, refl, ◌++◌, ◌∷◌, [], ℕ, List, false, replicate, Ok, Err}
 use Rattle.smb_le.specs.Numbers.{number_at, bytes_of}
 use Rattle.smb_head.specs.declared.request.Request.{Request}
 use Rattle.smb_head.specs.Header.{head_of, head_at}
 use Rattle.smb_chain.specs.Parts.{step_of}
-use Rattle.smb_credit.specs.Window.{Ids, usable, after_use, numbers}
-use Rattle.smb_mux.specs.declared.fault.TakeFault.{TakeFault}
+use Rattle.smb_credit.specs.Window.{Ids, usable, after_use}
 use Rattle.smb_mux.specs.declared.fault.TakeFault.TheVariants as fault
 use Rattle.smb_mux.specs.declared.fault.Malformed.TheVariants as malformed
 use Rattle.smb_field.specs.declared.field.BodyFault.TheVariants as body
-use Rattle.smb_mux.specs.declared.taken.Taken.{Taken}
 use Rattle.smb_mux.specs.Sending.{costs, room_of, flights_of}
 use Rattle.smb_mux.specs.InFlight.{but}
-use Rattle.smb_mux.specs.Judged.{judged, judged_from, nothing, command_at}
+use Rattle.smb_mux.specs.Judged.{judged, judged_from}
 
 -- a request of this command and charge, with four bytes of body
 asking : ℕ → ℕ → Request

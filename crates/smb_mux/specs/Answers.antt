@@ -1,11 +1,11 @@
 -- What the replies that a frame brings are: each is the final reply to a request in flight, and no two answer one request.
 use Rattle.std.specs.Prelude.{◌≡◌, ◌+◌, ℕ, true, false, if◌then◌else◌, List, [], ◌∷◌, length, Some, None, Ok}
 use Rattle.smb_head.specs.declared.head.Head.{Head}
-use Rattle.smb_head.specs.Header.{head_of}
+use Rattle.smb_head.specs.Header.{head_of, is_reply, is_interim}
 use Rattle.smb_mux.specs.declared.taken.Reply.{Reply}
 use Rattle.smb_mux.specs.declared.taken.Taken.{Taken}
 use Rattle.smb_mux.specs.Bodies.{reply_fault}
-use Rattle.smb_mux.specs.Judged.{has, command_at, is_answered, is_interim}
+use Rattle.smb_mux.specs.Judged.{command_at, is_answered}
 
 -- it has the id and the command of the request, the flag of replies, no interim status, and the body of its status and command
 pub record IsAnswerTo (awaited : List (ℕ × ℕ)) (reply : Reply) : Type 0 where
@@ -13,7 +13,7 @@ pub record IsAnswerTo (awaited : List (ℕ × ℕ)) (reply : Reply) : Type 0 whe
   pub headed : head_of reply.part ≡ Ok head
   pub mid : head.mid ≡ reply.mid
   pub command : command_at awaited reply.mid.0 ≡ Some head.command
-  pub flagged : has head.flags.0 1 ≡ true
+  pub flagged : is_reply head ≡ true
   pub final : is_interim head ≡ false
   pub body : reply_fault head.status.0 head.command reply.part ≡ None
 

@@ -1,26 +1,12 @@
 -- The bodies of replies (MS-SMB2 2.2), each counted from the header of its message: what is wrong with one, if anything is.
-use Rattle.std.specs.Prelude.{ℕ, ◌+◌, ◌==◌, Bool, true, false, not, ◌&&◌, ◌||◌, nat_lt, if◌then◌else◌, List, length, slice_index, slice_range, Option, Some, None, Result, Ok, Err}
+use Rattle.std.specs.Prelude.{ℕ, ◌+◌, ◌==◌, Bool, true, false, ◌&&◌, ◌||◌, if◌then◌else◌, List, slice_index, slice_range, Option, Some, None, Result, Ok, Err}
 use Rattle.smb_le.specs.Numbers.{number_at}
 use Rattle.smb_head.specs.declared.command.TheConstants.{NEGOTIATE, SESSION_SETUP, LOGOFF, TREE_CONNECT, TREE_DISCONNECT, CREATE, CLOSE, FLUSH, READ, WRITE, LOCK, ECHO, QUERY_DIRECTORY, QUERY_INFO, SET_INFO, OPLOCK_BREAK}
 use Rattle.smb_field.specs.declared.field.BodyFault.{BodyFault}
-use Rattle.smb_field.specs.declared.field.BodyFault.TheVariants.{Short, Size, Value, Offset}
-use Rattle.smb_field.specs.Body.{end_of_fixed}
+use Rattle.smb_field.specs.declared.field.BodyFault.TheVariants.{Value}
+use Rattle.smb_field.specs.Faults.{strays, fault_of, error_fault}
 use Rattle.smb_body_b.specs.declared.contexts.ContextSet.{ContextSet}
 use Rattle.smb_body_b.specs.Contexts.{read_of}
-
--- a variable part of so many bytes leaves the message, or begins before the end of the fixed part; that of no byte may lie anywhere
-abbrev pub strays : ℕ → ℕ → ℕ → List ℕ → Bool
-strays behind offset many message = not (many == 0) && (nat_lt offset behind || nat_lt (length message) (offset + many))
-
--- the first fault of a body of this size: the fixed part is not there, the size is another, the variable part strays
-abbrev pub fault_of : ℕ → Bool → List ℕ → Option BodyFault
-fault_of size stray message =
-    if nat_lt (length message) (end_of_fixed size) then Some Short
-    else (if number_at 2 64 message == size then (if stray then Some Offset else None) else Some Size)
-
--- the error body (MS-SMB2 2.2.2): as many bytes as stand at 68, from 72 on
-abbrev pub error_fault : List ℕ → Option BodyFault
-error_fault message = fault_of 9 (strays 72 72 (number_at 4 68 message) message) message
 
 -- NEGOTIATE (2.2.4) with its token, SESSION_SETUP (2.2.6) with its token
 abbrev pub negotiate_fault : List ℕ → Option BodyFault

@@ -1,6 +1,6 @@
 -- What the messages of a frame are to a client with requests in flight (MS-SMB2 3.2.5.1). They are judged one after the other, and the
 -- first one with a fault decides.
-use Rattle.std.specs.Prelude.{◌≡◌, ℕ, zero, suc, ◌==◌, Bool, true, false, not, ◌&&◌, if◌then◌else◌, bit_and, List, [], ◌∷◌, ◌++◌, length, slice_range, Option, Some, None, Result, Ok, Err}
+use Rattle.std.specs.Prelude.{◌≡◌, ℕ, zero, suc, ◌==◌, Bool, true, false, ◌&&◌, if◌then◌else◌, bit_and, List, [], ◌∷◌, ◌++◌, length, slice_range, Option, Some, None, Result, Ok, Err}
 use Rattle.std.specs.List.{list_any}
 use Rattle.std.specs.Map.{lookup}
 use Rattle.std.specs.BTreeMap.{is_at}
@@ -9,7 +9,7 @@ use Rattle.smb_le.specs.Numbers.{number_at}
 use Rattle.smb_head.specs.declared.command.TheConstants.{OPLOCK_BREAK}
 use Rattle.smb_head.specs.declared.head.Head.{Head}
 use Rattle.smb_head.specs.declared.head.HeadFault.{HeadFault}
-use Rattle.smb_head.specs.Header.{head_of}
+use Rattle.smb_head.specs.Header.{head_of, has, is_reply_to, is_interim}
 use Rattle.smb_chain.specs.Parts.{Step, Only, Then, Bad, step_of, step_from}
 use Rattle.smb_credit.specs.Window.{no_request}
 use Rattle.smb_field.specs.declared.field.BodyFault.{BodyFault}
@@ -22,12 +22,9 @@ use Rattle.smb_mux.specs.declared.taken.BreakNote.{BreakNote}
 use Rattle.smb_mux.specs.declared.taken.Taken.{Taken}
 use Rattle.smb_mux.specs.declared.look.Look.{Look}
 use Rattle.smb_mux.specs.declared.look.Look.TheVariants as look
-use Rattle.smb_mux.specs.Bodies.{fault_of, error_fault, reply_fault}
+use Rattle.smb_field.specs.Faults.{fault_of, error_fault}
+use Rattle.smb_mux.specs.Bodies.{reply_fault}
 use denote.Ref.{Bor}
-
--- a number has one of these bits
-abbrev pub has : ℕ → ℕ → Bool
-has number bits = not (bit_and number bits == 0)
 
 -- nothing so far
 abbrev pub nothing : Taken
@@ -45,17 +42,13 @@ is_answered replies id = list_any (λ (r : Reply). r.mid.0 == id) replies
 abbrev pub awaited_command : List (ℕ × ℕ) → Taken → ℕ → Option ℕ
 awaited_command awaited taken id = if is_answered taken.replies id then None else command_at awaited id
 
--- an interim reply (MS-SMB2 3.3.4.2): STATUS_PENDING with the flag ASYNC
-abbrev pub is_interim : Head → Bool
-is_interim head = head.status.0 == 0x103 && has head.flags.0 2
-
 -- the notice that a lease is broken (MS-SMB2 2.2.23.2): its flags at 68, the key at 72, the new state at 92
 abbrev pub is_sound : Option BodyFault → Bool
 is_sound None = true
 is_sound (Some fault) = false
 
 abbrev pub is_notice : Head → List ℕ → Bool
-is_notice head message = head.command == OPLOCK_BREAK && has head.flags.0 1 && head.status.0 == 0 && is_sound (fault_of 44 false message)
+is_notice head message = is_reply_to OPLOCK_BREAK head && head.status.0 == 0 && is_sound (fault_of 44 false message)
 
 abbrev pub note_of : List ℕ → BreakNote
 note_of message = record {
@@ -86,7 +79,7 @@ looked_reply head message =
 abbrev pub looked_for : Option ℕ → Head → List ℕ → Look
 looked_for None head message = look.Fault (fault.Stranger head.mid)
 looked_for (Some command) head message =
-    if head.command == command && has head.flags.0 1 then looked_reply head message else wrong body.Value
+    if is_reply_to command head then looked_reply head message else wrong body.Value
 
 -- what answers no request has to be a notice
 abbrev pub looked_notice : Option BreakNote → Look

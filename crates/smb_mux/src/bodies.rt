@@ -2,7 +2,8 @@
 
 ghost use Rattle.std.specs.Prelude.{◌≡◌, true, false};
 ghost use Rattle.smb_body_b.specs.Contexts.{read_of};
-ghost use Rattle.smb_mux.specs.Bodies.{fault_of, error_fault, negotiate_fault, session_fault, read_fault, buffer_fault, create_fault, contexts_fault, connection_fault, content_fault, done_fault, is_empty_reply, is_done, reply_fault};
+ghost use Rattle.smb_field.specs.Faults.{fault_of, error_fault};
+ghost use Rattle.smb_mux.specs.Bodies.{negotiate_fault, session_fault, read_fault, buffer_fault, create_fault, contexts_fault, connection_fault, content_fault, done_fault, is_empty_reply, is_done, reply_fault};
 
 use smb_base::Status;
 use smb_body_a::{

@@ -1,7 +1,7 @@
 //! What a message is to a client with requests in flight.
 
 ghost use Rattle.std.specs.Prelude.{◌≡◌, Some};
-ghost use Rattle.smb_mux.specs.Judged.{is_interim, notice_in, looked, looked_for, wrong, if_sound};
+ghost use Rattle.smb_mux.specs.Judged.{notice_in, looked, looked_for, wrong, if_sound};
 
 use crate::bodies::{error_fault, reply_fault};
 use crate::fault::{Malformed, TakeFault};
@@ -13,7 +13,6 @@ use smb_credit::NO_REQUEST;
 use smb_field::BodyFault;
 use smb_head::Head;
 use smb_head::command::OPLOCK_BREAK;
-use smb_le::HeadFlags;
 
 /// The flag of a notice that wants to be acknowledged (MS-SMB2 2.2.23.2).
 const ACK_REQUIRED: u32 = 1;
@@ -54,10 +53,10 @@ pub(crate) fn look_under(head: &Head, part: &[u8], command: Option<u16>) -> Look
 fn look_for(head: &Head, part: &[u8], command: u16) -> Look
     ensures { result ≡ looked_for (Some command) head.now part.now }
 {
-    if head.command != command || !head.flags.contains(HeadFlags::REPLY) {
+    if !head.is_reply_to(command) {
         return wrong(BodyFault::Value);
     }
-    if is_interim(head) {
+    if head.is_interim() {
         if_sound(Look::Interim(head.mid), error_fault(part))
     } else {
         if_sound(
@@ -84,21 +83,11 @@ fn if_sound(look: Look, fault: Option<BodyFault>) -> Look
     }
 }
 
-// An interim reply: STATUS_PENDING with the flag ASYNC.
-fn is_interim(head: &Head) -> bool
-    ensures { result ≡ is_interim head.now }
-{
-    head.status == Status::PENDING && head.flags.0 & HeadFlags::ASYNC.0 != 0
-}
-
 // The notice that a lease is broken, where a message is one.
 fn notice_in(head: &Head, part: &[u8]) -> Option<BreakNote>
     ensures { result ≡ notice_in head.now part.now }
 {
-    if head.command != OPLOCK_BREAK
-        || !head.flags.contains(HeadFlags::REPLY)
-        || head.status != Status::SUCCESS
-    {
+    if !head.is_reply_to(OPLOCK_BREAK) || head.status != Status::SUCCESS {
         return None;
     }
     match read_lease_break(part) {

@@ -3,7 +3,8 @@ use Rattle.smb_le.specs.Numbers.{number_at}
 use Rattle.smb_field.specs.declared.field.BodyFault.{BodyFault}
 use Rattle.smb_field.specs.Body.{Lends}
 use Rattle.smb_body_b.specs.Contexts.{read_of}
-use Rattle.smb_mux.specs.Bodies.{strays, fault_of, first_fault, contexts_fault, contexts_of}
+use Rattle.smb_field.specs.Faults.{strays, fault_of}
+use Rattle.smb_mux.specs.Bodies.{first_fault, contexts_fault, contexts_of}
 use Rattle.smb_mux.proofs.BodyLaws.{lent_part}
 use Rattle.smb_mux.proofs.bodies.create_fault.Goals as goal
 
