@@ -1,9 +1,9 @@
 //! The body without a field that many messages share: LOGOFF, TREE_DISCONNECT and ECHO both ways, and the replies to FLUSH and
 //! LOCK (MS-SMB2 2.2.7, 2.2.8, 2.2.11, 2.2.12, 2.2.18, 2.2.27, 2.2.28 and 2.2.29).
 
-ghost use Rattle.std.specs.Prelude.{[], IsOk};
+ghost use Rattle.std.specs.Prelude.{◌≡◌, [], IsOk};
 ghost use Rattle.smb_field.specs.Body.{Reads, WritesBody};
-ghost use Rattle.smb_body_a.specs.Empty.{empty_body, IsEmpty};
+ghost use Rattle.smb_body_a.specs.Empty.{empty_body, IsEmpty, empty_of};
 ghost use Rattle.smb_body_a.specs.declared.empty.Empty.{Empty};
 
 use smb_base::NoMemory;
@@ -15,7 +15,9 @@ use smb_le::get_u16;
 pub struct Empty;
 
 /// Reads the body without a field from a whole message, header and body. What stands in the reserved field is not looked at.
+#[tactic(auto, unfolding(crate::specs::Empty::empty_of))]
 pub fn read_empty(part: &[u8]) -> Result<Empty, BodyFault>
+    ensures exact { result ≡ empty_of part.now }
     ensures reads { Reads 4 (λ (x : Empty). IsEmpty x part.now) ⊥ ⊥ part.now result }
     ensures only { (x : Empty) → IsEmpty x part.now → IsOk result }
 {

@@ -2,8 +2,9 @@
 
 ghost use Rattle.std.specs.Prelude.{◌≡◌, ◌*◌, ◌/◌, ◌%◌, ◌^◌, ◌<◌, IsOk, length};
 ghost use Rattle.smb_le.specs.Numbers.{number_at};
+ghost use Rattle.smb_field.specs.Rows.{seen_as};
 ghost use Rattle.smb_field.specs.Body.{Strays, Reads, WritesBody};
-ghost use Rattle.smb_body_a.specs.Negotiate.{negotiate_request, IsNegotiateRequest, negotiate_reply, IsNegotiateReply};
+ghost use Rattle.smb_body_a.specs.Negotiate.{negotiate_request, IsNegotiateRequest, negotiate_reply, IsNegotiateReply, negotiate_request_of, seen_negotiate_request, negotiate_reply_of, seen_negotiate_reply};
 ghost use Rattle.smb_body_a.specs.declared.negotiate.NegotiateRequest.{NegotiateRequest};
 ghost use Rattle.smb_body_a.specs.declared.negotiate.NegotiateReply.{NegotiateReply};
 
@@ -47,7 +48,9 @@ pub struct NegotiateReply<'a> {
 
 /// Reads the body of a NEGOTIATE request from a whole message, header and body. The dialects are lent from the message. What
 /// stands in the fields that have one written value is not looked at.
+#[tactic(auto, unfolding(crate::specs::Negotiate::negotiate_request_of))]
 pub fn read_negotiate_request(part: &[u8]) -> Result<NegotiateRequest<'_>, BodyFault>
+    ensures exact { seen_as seen_negotiate_request result ≡ negotiate_request_of part.now }
     ensures reads { Reads 36 (λ (x : NegotiateRequest). IsNegotiateRequest x part.now) ⊥
         (Strays 100 100 (2 * number_at 2 66 part.now) part.now)
         part.now result }
@@ -94,7 +97,9 @@ pub fn write_negotiate_request(out: &mut Vec<u8>, x: &NegotiateRequest<'_>) -> R
 
 /// Reads the body of a NEGOTIATE reply from a whole message, header and body. The buffer is lent from the message. What stands in
 /// the reserved fields is not looked at.
+#[tactic(auto, unfolding(crate::specs::Negotiate::negotiate_reply_of))]
 pub fn read_negotiate_reply(part: &[u8]) -> Result<NegotiateReply<'_>, BodyFault>
+    ensures exact { seen_as seen_negotiate_reply result ≡ negotiate_reply_of part.now }
     ensures reads { Reads 65 (λ (x : NegotiateReply). IsNegotiateReply x part.now) ⊥
         (Strays 128 (number_at 2 120 part.now) (number_at 2 122 part.now) part.now)
         part.now result }

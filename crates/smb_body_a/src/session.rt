@@ -1,9 +1,10 @@
 //! SESSION_SETUP (MS-SMB2 2.2.5 and 2.2.6).
 
-ghost use Rattle.std.specs.Prelude.{◌^◌, ◌<◌, IsOk, length};
+ghost use Rattle.std.specs.Prelude.{◌≡◌, ◌^◌, ◌<◌, IsOk, length};
 ghost use Rattle.smb_le.specs.Numbers.{number_at};
+ghost use Rattle.smb_field.specs.Rows.{seen_as};
 ghost use Rattle.smb_field.specs.Body.{Strays, Reads, WritesBody};
-ghost use Rattle.smb_body_a.specs.Session.{session_setup_request, IsSessionSetupRequest, session_setup_reply, IsSessionSetupReply};
+ghost use Rattle.smb_body_a.specs.Session.{session_setup_request, IsSessionSetupRequest, session_setup_reply, IsSessionSetupReply, session_setup_request_of, seen_session_request, session_setup_reply_of, seen_session_reply};
 ghost use Rattle.smb_body_a.specs.declared.session.SessionSetupRequest.{SessionSetupRequest};
 ghost use Rattle.smb_body_a.specs.declared.session.SessionSetupReply.{SessionSetupReply};
 
@@ -32,7 +33,9 @@ pub struct SessionSetupReply<'a> {
 /// Reads the body of a SESSION_SETUP request from a whole message, header and body. The token is lent from the message. What
 /// stands
 /// in the fields that have one written value is not looked at.
+#[tactic(auto, unfolding(crate::specs::Session::session_setup_request_of))]
 pub fn read_session_setup_request(part: &[u8]) -> Result<SessionSetupRequest<'_>, BodyFault>
+    ensures exact { seen_as seen_session_request result ≡ session_setup_request_of part.now }
     ensures reads { Reads 25 (λ (x : SessionSetupRequest). IsSessionSetupRequest x part.now) ⊥
         (Strays 88 (number_at 2 76 part.now) (number_at 2 78 part.now) part.now)
         part.now result }
@@ -83,7 +86,9 @@ pub fn write_session_setup_request(
 }
 
 /// Reads the body of a SESSION_SETUP reply from a whole message, header and body. The token is lent from the message.
+#[tactic(auto, unfolding(crate::specs::Session::session_setup_reply_of))]
 pub fn read_session_setup_reply(part: &[u8]) -> Result<SessionSetupReply<'_>, BodyFault>
+    ensures exact { seen_as seen_session_reply result ≡ session_setup_reply_of part.now }
     ensures reads { Reads 9 (λ (x : SessionSetupReply). IsSessionSetupReply x part.now) ⊥
         (Strays 72 (number_at 2 68 part.now) (number_at 2 70 part.now) part.now)
         part.now result }

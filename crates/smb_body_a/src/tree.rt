@@ -1,9 +1,10 @@
 //! TREE_CONNECT (MS-SMB2 2.2.9 and 2.2.10).
 
-ghost use Rattle.std.specs.Prelude.{[], ◌^◌, ◌<◌, IsOk, length};
+ghost use Rattle.std.specs.Prelude.{◌≡◌, [], ◌^◌, ◌<◌, IsOk, length};
 ghost use Rattle.smb_le.specs.Numbers.{number_at};
+ghost use Rattle.smb_field.specs.Rows.{seen_as};
 ghost use Rattle.smb_field.specs.Body.{Strays, Reads, WritesBody};
-ghost use Rattle.smb_body_a.specs.Tree.{tree_connect_request, IsTreeConnectRequest, tree_connect_reply, IsTreeConnectReply};
+ghost use Rattle.smb_body_a.specs.Tree.{tree_connect_request, IsTreeConnectRequest, tree_connect_reply, IsTreeConnectReply, tree_connect_request_of, seen_path, tree_connect_reply_of};
 ghost use Rattle.smb_body_a.specs.declared.tree.TreeConnectRequest.{TreeConnectRequest};
 ghost use Rattle.smb_body_a.specs.declared.tree.TreeConnectReply.{TreeConnectReply};
 
@@ -33,7 +34,9 @@ pub struct TreeConnectReply {
 
 /// Reads the body of a TREE_CONNECT request from a whole message, header and body. The path is lent from the message. What stands
 /// in the reserved field is not looked at.
+#[tactic(auto, unfolding(crate::specs::Tree::tree_connect_request_of))]
 pub fn read_tree_connect_request(part: &[u8]) -> Result<TreeConnectRequest<'_>, BodyFault>
+    ensures exact { seen_as seen_path result ≡ tree_connect_request_of part.now }
     ensures reads { Reads 9 (λ (x : TreeConnectRequest). IsTreeConnectRequest x part.now) ⊥
         (Strays 72 (number_at 2 68 part.now) (number_at 2 70 part.now) part.now)
         part.now result }
@@ -78,7 +81,9 @@ pub fn write_tree_connect_request(
 
 /// Reads the body of a TREE_CONNECT reply from a whole message, header and body. What stands in the reserved field is not looked
 /// at.
+#[tactic(auto, unfolding(crate::specs::Tree::tree_connect_reply_of))]
 pub fn read_tree_connect_reply(part: &[u8]) -> Result<TreeConnectReply, BodyFault>
+    ensures exact { result ≡ tree_connect_reply_of part.now }
     ensures reads { Reads 16 (λ (x : TreeConnectReply). IsTreeConnectReply x part.now) ⊥ ⊥ part.now result }
     ensures only { (x : TreeConnectReply) → IsTreeConnectReply x part.now → IsOk result }
 {

@@ -1,9 +1,9 @@
 //! CLOSE (MS-SMB2 2.2.15 and 2.2.16).
 
-ghost use Rattle.std.specs.Prelude.{[], IsOk};
+ghost use Rattle.std.specs.Prelude.{◌≡◌, [], IsOk};
 ghost use Rattle.smb_le.specs.Numbers.{number_at};
 ghost use Rattle.smb_field.specs.Body.{Reads, WritesBody};
-ghost use Rattle.smb_body_b.specs.Close.{close_request, IsCloseRequest, close_reply, IsCloseReply};
+ghost use Rattle.smb_body_b.specs.Close.{close_request, IsCloseRequest, close_reply, IsCloseReply, close_request_of, close_reply_of};
 ghost use Rattle.smb_body_b.specs.declared.close.CloseRequest.{CloseRequest};
 ghost use Rattle.smb_body_b.specs.declared.close.CloseReply.{CloseReply};
 
@@ -20,7 +20,9 @@ pub struct CloseRequest {
 
 /// Reads the body of a CLOSE request from a whole message, header and body. What stands in a reserved field or in one with a
 /// single written value is not looked at.
+#[tactic(auto, unfolding(crate::specs::Close::close_request_of))]
 pub fn read_close_request(part: &[u8]) -> Result<CloseRequest, BodyFault>
+    ensures exact { result ≡ close_request_of part.now }
     ensures reads { Reads 24 (λ (x : CloseRequest). IsCloseRequest x part.now) ⊥ ⊥ part.now result }
     ensures only { (x : CloseRequest) → IsCloseRequest x part.now → IsOk result }
 {
@@ -72,7 +74,9 @@ pub struct CloseReply {
 
 /// Reads the body of a CLOSE reply from a whole message, header and body. What stands in a reserved field or in one with a single
 /// written value is not looked at.
+#[tactic(auto, unfolding(crate::specs::Close::close_reply_of))]
 pub fn read_close_reply(part: &[u8]) -> Result<CloseReply, BodyFault>
+    ensures exact { result ≡ close_reply_of part.now }
     ensures reads { Reads 60 (λ (x : CloseReply). IsCloseReply x part.now) ⊥ ⊥ part.now result }
     ensures only { (x : CloseReply) → IsCloseReply x part.now → IsOk result }
 {

@@ -2,9 +2,10 @@
 
 ghost use Rattle.std.specs.Prelude.{◌≡◌, ◌≢◌, ◌%◌, ◌^◌, ◌<◌, ◌≤◌, ◌⊎◌, IsOk, length};
 ghost use Rattle.smb_le.specs.Numbers.{number_at};
+ghost use Rattle.smb_field.specs.Rows.{seen_as};
 ghost use Rattle.smb_field.specs.Body.{Strays, Reads, WritesBody};
 ghost use Rattle.smb_field.specs.TwoParts.{WritesBodyOfTwo};
-ghost use Rattle.smb_body_b.specs.Create.{create_request, IsCreateRequest, create_reply, IsCreateReply};
+ghost use Rattle.smb_body_b.specs.Create.{create_request, IsCreateRequest, create_reply, IsCreateReply, create_request_of, seen_create_request, create_reply_of, seen_create_reply};
 ghost use Rattle.smb_body_b.specs.declared.create.CreateRequest.{CreateRequest};
 ghost use Rattle.smb_body_b.specs.declared.create.CreateReply.{CreateReply};
 
@@ -59,7 +60,9 @@ pub struct CreateReply<'a> {
 /// Reads the body of a CREATE request from a whole message, header and body. The name and the contexts are lent from the message;
 /// the message is one of SMB2 only where `read_contexts` reads these too. What stands in a reserved field or in one with a single
 /// written value is not looked at.
+#[tactic(auto, unfolding(crate::specs::Create::create_request_of))]
 pub fn read_create_request(part: &[u8]) -> Result<CreateRequest<'_>, BodyFault>
+    ensures exact { seen_as seen_create_request result ≡ create_request_of part.now }
     ensures reads { Reads 57 (λ (x : CreateRequest). IsCreateRequest x part.now)
         ((5 < number_at 4 100 part.now) ⊎ (number_at 2 110 part.now % 2 ≢ 0))
         (Strays 120 (number_at 2 108 part.now) (number_at 2 110 part.now) part.now
@@ -133,7 +136,9 @@ pub fn write_create_request(out: &mut Vec<u8>, x: &CreateRequest<'_>) -> Result<
 
 /// Reads the body of a CREATE reply from a whole message, header and body. The contexts are lent from the message; the message is
 /// one of SMB2 only where `read_contexts` reads these too. What stands in the reserved field is not looked at.
+#[tactic(auto, unfolding(crate::specs::Create::create_reply_of))]
 pub fn read_create_reply(part: &[u8]) -> Result<CreateReply<'_>, BodyFault>
+    ensures exact { seen_as seen_create_reply result ≡ create_reply_of part.now }
     ensures reads { Reads 89 (λ (x : CreateReply). IsCreateReply x part.now) ⊥
         (Strays 152 (number_at 4 144 part.now) (number_at 4 148 part.now) part.now)
         part.now result }

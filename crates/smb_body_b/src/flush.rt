@@ -1,9 +1,9 @@
 //! FLUSH (MS-SMB2 2.2.17).
 
-ghost use Rattle.std.specs.Prelude.{[], IsOk};
+ghost use Rattle.std.specs.Prelude.{◌≡◌, [], IsOk};
 ghost use Rattle.smb_le.specs.Numbers.{number_at};
 ghost use Rattle.smb_field.specs.Body.{Reads, WritesBody};
-ghost use Rattle.smb_body_b.specs.Flush.{flush_request, IsFlushRequest};
+ghost use Rattle.smb_body_b.specs.Flush.{flush_request, IsFlushRequest, flush_request_of};
 ghost use Rattle.smb_body_b.specs.declared.flush.FlushRequest.{FlushRequest};
 
 use smb_base::{Fid, NoMemory};
@@ -19,7 +19,9 @@ pub struct FlushRequest {
 
 /// Reads the body of a FLUSH request from a whole message, header and body. What stands in a reserved field or in one with a
 /// single written value is not looked at.
+#[tactic(auto, unfolding(crate::specs::Flush::flush_request_of))]
 pub fn read_flush_request(part: &[u8]) -> Result<FlushRequest, BodyFault>
+    ensures exact { result ≡ flush_request_of part.now }
     ensures reads { Reads 24 (λ (x : FlushRequest). IsFlushRequest x part.now) ⊥ ⊥ part.now result }
     ensures only { (x : FlushRequest) → IsFlushRequest x part.now → IsOk result }
 {

@@ -1,9 +1,10 @@
 //! READ (MS-SMB2 2.2.19 and 2.2.20).
 
-ghost use Rattle.std.specs.Prelude.{[], ◌^◌, ◌<◌, IsOk, length, slice_index};
+ghost use Rattle.std.specs.Prelude.{◌≡◌, [], ◌^◌, ◌<◌, IsOk, length, slice_index};
 ghost use Rattle.smb_le.specs.Numbers.{number_at};
+ghost use Rattle.smb_field.specs.Rows.{seen_as};
 ghost use Rattle.smb_field.specs.Body.{Strays, Reads, WritesBody};
-ghost use Rattle.smb_body_b.specs.Read.{read_request, IsReadRequest, read_reply, IsReadReply};
+ghost use Rattle.smb_body_b.specs.Read.{read_request, IsReadRequest, read_reply, IsReadReply, read_request_of, read_reply_of, seen_read_reply};
 ghost use Rattle.smb_body_b.specs.declared.read.ReadRequest.{ReadRequest};
 ghost use Rattle.smb_body_b.specs.declared.read.ReadReply.{ReadReply};
 
@@ -24,7 +25,9 @@ pub struct ReadRequest {
 
 /// Reads the body of a READ request from a whole message, header and body. What stands in a reserved field or in one with a
 /// single written value is not looked at.
+#[tactic(auto, unfolding(crate::specs::Read::read_request_of))]
 pub fn read_read_request(part: &[u8]) -> Result<ReadRequest, BodyFault>
+    ensures exact { result ≡ read_request_of part.now }
     ensures reads { Reads 49 (λ (x : ReadRequest). IsReadRequest x part.now) ⊥ ⊥ part.now result }
     ensures only { (x : ReadRequest) → IsReadRequest x part.now → IsOk result }
 {
@@ -79,7 +82,9 @@ pub struct ReadReply<'a> {
 
 /// Reads the body of a READ reply from a whole message, header and body. The bytes are lent from the message. What stands in a
 /// reserved field or in one with a single written value is not looked at.
+#[tactic(auto, unfolding(crate::specs::Read::read_reply_of))]
 pub fn read_read_reply(part: &[u8]) -> Result<ReadReply<'_>, BodyFault>
+    ensures exact { seen_as seen_read_reply result ≡ read_reply_of part.now }
     ensures reads { Reads 17 (λ (x : ReadReply). IsReadReply x part.now) ⊥
         (Strays 80 (slice_index part.now 66) (number_at 4 68 part.now) part.now)
         part.now result }

@@ -1,9 +1,10 @@
 //! WRITE (MS-SMB2 2.2.21 and 2.2.22).
 
-ghost use Rattle.std.specs.Prelude.{[], ◌^◌, ◌<◌, IsOk, length};
+ghost use Rattle.std.specs.Prelude.{◌≡◌, [], ◌^◌, ◌<◌, IsOk, length};
 ghost use Rattle.smb_le.specs.Numbers.{number_at};
+ghost use Rattle.smb_field.specs.Rows.{seen_as};
 ghost use Rattle.smb_field.specs.Body.{Strays, Reads, WritesBody};
-ghost use Rattle.smb_body_b.specs.Write.{write_request, IsWriteRequest, write_reply, IsWriteReply};
+ghost use Rattle.smb_body_b.specs.Write.{write_request, IsWriteRequest, write_reply, IsWriteReply, write_request_of, seen_write_request, write_reply_of};
 ghost use Rattle.smb_body_b.specs.declared.write.WriteRequest.{WriteRequest};
 ghost use Rattle.smb_body_b.specs.declared.write.WriteReply.{WriteReply};
 
@@ -24,7 +25,9 @@ pub struct WriteRequest<'a> {
 
 /// Reads the body of a WRITE request from a whole message, header and body. The bytes are lent from the message. What stands in a
 /// reserved field or in one with a single written value is not looked at.
+#[tactic(auto, unfolding(crate::specs::Write::write_request_of))]
 pub fn read_write_request(part: &[u8]) -> Result<WriteRequest<'_>, BodyFault>
+    ensures exact { seen_as seen_write_request result ≡ write_request_of part.now }
     ensures reads { Reads 49 (λ (x : WriteRequest). IsWriteRequest x part.now) ⊥
         (Strays 112 (number_at 2 66 part.now) (number_at 4 68 part.now) part.now)
         part.now result }
@@ -88,7 +91,9 @@ pub struct WriteReply {
 
 /// Reads the body of a WRITE reply from a whole message, header and body. What stands in a reserved field or in one with a single
 /// written value is not looked at.
+#[tactic(auto, unfolding(crate::specs::Write::write_reply_of))]
 pub fn read_write_reply(part: &[u8]) -> Result<WriteReply, BodyFault>
+    ensures exact { result ≡ write_reply_of part.now }
     ensures reads { Reads 17 (λ (x : WriteReply). IsWriteReply x part.now) ⊥ ⊥ part.now result }
     ensures only { (x : WriteReply) → IsWriteReply x part.now → IsOk result }
 {

@@ -1,9 +1,10 @@
 //! QUERY_DIRECTORY, and the reply that it shares with QUERY_INFO (MS-SMB2 2.2.33, 2.2.34 and 2.2.38).
 
-ghost use Rattle.std.specs.Prelude.{◌^◌, ◌<◌, IsOk, length};
+ghost use Rattle.std.specs.Prelude.{◌≡◌, ◌^◌, ◌<◌, IsOk, length};
 ghost use Rattle.smb_le.specs.Numbers.{number_at};
+ghost use Rattle.smb_field.specs.Rows.{seen_as};
 ghost use Rattle.smb_field.specs.Body.{Strays, Reads, WritesBody};
-ghost use Rattle.smb_body_c.specs.Directory.{query_directory_request, IsQueryDirectoryRequest, buffer_reply, IsBufferReply};
+ghost use Rattle.smb_body_c.specs.Directory.{query_directory_request, IsQueryDirectoryRequest, buffer_reply, IsBufferReply, query_directory_request_of, seen_query_directory, buffer_reply_of, seen_buffer};
 ghost use Rattle.smb_body_c.specs.declared.directory.QueryDirectoryRequest.{QueryDirectoryRequest};
 ghost use Rattle.smb_body_c.specs.declared.directory.BufferReply.{BufferReply};
 
@@ -28,7 +29,9 @@ pub struct QueryDirectoryRequest<'a> {
 
 /// Reads the body of a QUERY_DIRECTORY request from a whole message, header and body. The pattern is lent from the message. What
 /// stands in a reserved field or in one with a single written value is not looked at.
+#[tactic(auto, unfolding(crate::specs::Directory::query_directory_request_of))]
 pub fn read_query_directory_request(part: &[u8]) -> Result<QueryDirectoryRequest<'_>, BodyFault>
+    ensures exact { seen_as seen_query_directory result ≡ query_directory_request_of part.now }
     ensures reads { Reads 33 (λ (x : QueryDirectoryRequest). IsQueryDirectoryRequest x part.now) ⊥
         (Strays 96 (number_at 2 88 part.now) (number_at 2 90 part.now) part.now)
         part.now result }
@@ -94,7 +97,9 @@ pub struct BufferReply<'a> {
 
 /// Reads the body of a reply to QUERY_DIRECTORY or QUERY_INFO from a whole message, header and body. The buffer is lent from the
 /// message.
+#[tactic(auto, unfolding(crate::specs::Directory::buffer_reply_of))]
 pub fn read_buffer_reply(part: &[u8]) -> Result<BufferReply<'_>, BodyFault>
+    ensures exact { seen_as seen_buffer result ≡ buffer_reply_of part.now }
     ensures reads { Reads 9 (λ (x : BufferReply). IsBufferReply x part.now) ⊥
         (Strays 72 (number_at 2 66 part.now) (number_at 4 68 part.now) part.now)
         part.now result }

@@ -1,9 +1,10 @@
 //! The reply of a request that the server refused (MS-SMB2 2.2.2).
 
-ghost use Rattle.std.specs.Prelude.{◌^◌, ◌<◌, IsOk, length};
+ghost use Rattle.std.specs.Prelude.{◌≡◌, ◌^◌, ◌<◌, IsOk, length};
 ghost use Rattle.smb_le.specs.Numbers.{number_at};
+ghost use Rattle.smb_field.specs.Rows.{seen_as};
 ghost use Rattle.smb_field.specs.Body.{Strays, Reads, WritesBody};
-ghost use Rattle.smb_body_c.specs.Error.{error_reply, IsErrorReply};
+ghost use Rattle.smb_body_c.specs.Error.{error_reply, IsErrorReply, error_reply_of, seen_error};
 ghost use Rattle.smb_body_c.specs.declared.error.ErrorReply.{ErrorReply};
 
 use smb_base::NoMemory;
@@ -21,7 +22,9 @@ pub struct ErrorReply<'a> {
 
 /// Reads the body of an error reply from a whole message, header and body. The bytes are lent from the message. What stands in a
 /// reserved field or in one with a single written value is not looked at.
+#[tactic(auto, unfolding(crate::specs::Error::error_reply_of))]
 pub fn read_error_reply(part: &[u8]) -> Result<ErrorReply<'_>, BodyFault>
+    ensures exact { seen_as seen_error result ≡ error_reply_of part.now }
     ensures reads { Reads 9 (λ (x : ErrorReply). IsErrorReply x part.now) ⊥
         (Strays 72 72 (number_at 4 68 part.now) part.now)
         part.now result }

@@ -2,8 +2,9 @@
 
 ghost use Rattle.std.specs.Prelude.{◌≡◌, ◌≢◌, [], ◌^◌, ◌<◌, IsOk, length, slice_index};
 ghost use Rattle.smb_le.specs.Numbers.{number_at};
+ghost use Rattle.smb_field.specs.Rows.{seen_as};
 ghost use Rattle.smb_field.specs.Body.{Strays, Reads, WritesBody};
-ghost use Rattle.smb_body_c.specs.Info.{IsQueried, query_info_request, IsQueryInfoRequest, set_info_request, IsSetInfoRequest, set_info_reply, IsSetInfoReply};
+ghost use Rattle.smb_body_c.specs.Info.{IsQueried, query_info_request, IsQueryInfoRequest, set_info_request, IsSetInfoRequest, set_info_reply, IsSetInfoReply, query_info_request_of, set_info_request_of, seen_set_info, set_info_reply_of};
 ghost use Rattle.smb_body_c.specs.declared.info.QueryInfoRequest.{QueryInfoRequest};
 ghost use Rattle.smb_body_c.specs.declared.info.SetInfoRequest.{SetInfoRequest};
 ghost use Rattle.smb_body_c.specs.declared.info.SetInfoReply.{SetInfoReply};
@@ -27,7 +28,9 @@ pub struct QueryInfoRequest {
 
 /// Reads the body of a QUERY_INFO request from a whole message, header and body. What stands in a reserved field or in one with a
 /// single written value is not looked at.
+#[tactic(auto, unfolding(crate::specs::Info::query_info_request_of))]
 pub fn read_query_info_request(part: &[u8]) -> Result<QueryInfoRequest, BodyFault>
+    ensures exact { result ≡ query_info_request_of part.now }
     ensures reads { Reads 41 (λ (x : QueryInfoRequest). IsQueryInfoRequest x part.now)
         (¬ IsQueried (slice_index part.now 66)) ⊥
         part.now result }
@@ -92,7 +95,9 @@ pub struct SetInfoRequest<'a> {
 
 /// Reads the body of a SET_INFO request from a whole message, header and body. The buffer is lent from the message. What stands
 /// in a reserved field or in one with a single written value is not looked at.
+#[tactic(auto, unfolding(crate::specs::Info::set_info_request_of))]
 pub fn read_set_info_request(part: &[u8]) -> Result<SetInfoRequest<'_>, BodyFault>
+    ensures exact { seen_as seen_set_info result ≡ set_info_request_of part.now }
     ensures reads { Reads 33 (λ (x : SetInfoRequest). IsSetInfoRequest x part.now)
         (slice_index part.now 66 ≢ 1)
         (Strays 96 (number_at 2 72 part.now) (number_at 4 68 part.now) part.now)
@@ -150,7 +155,9 @@ pub fn write_set_info_request(out: &mut Vec<u8>, x: &SetInfoRequest<'_>) -> Resu
 pub struct SetInfoReply;
 
 /// Reads the body of a SET_INFO reply from a whole message, header and body.
+#[tactic(auto, unfolding(crate::specs::Info::set_info_reply_of))]
 pub fn read_set_info_reply(part: &[u8]) -> Result<SetInfoReply, BodyFault>
+    ensures exact { result ≡ set_info_reply_of part.now }
     ensures reads { Reads 2 (λ (x : SetInfoReply). IsSetInfoReply x part.now) ⊥ ⊥ part.now result }
     ensures only { (x : SetInfoReply) → IsSetInfoReply x part.now → IsOk result }
 {

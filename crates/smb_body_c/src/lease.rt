@@ -1,9 +1,9 @@
 //! Lease breaks (MS-SMB2 2.2.23.2, 2.2.24.2 and 2.2.25.2).
 
-ghost use Rattle.std.specs.Prelude.{[], IsOk};
+ghost use Rattle.std.specs.Prelude.{◌≡◌, [], IsOk};
 ghost use Rattle.smb_le.specs.Numbers.{number_at};
 ghost use Rattle.smb_field.specs.Body.{Reads, WritesBody};
-ghost use Rattle.smb_body_c.specs.Lease.{lease_break, IsLeaseBreak, lease_ack, IsLeaseAck};
+ghost use Rattle.smb_body_c.specs.Lease.{lease_break, IsLeaseBreak, lease_ack, IsLeaseAck, lease_break_of, lease_ack_of};
 ghost use Rattle.smb_body_c.specs.declared.lease.LeaseBreak.{LeaseBreak};
 ghost use Rattle.smb_body_c.specs.declared.lease.LeaseAck.{LeaseAck};
 
@@ -33,7 +33,9 @@ pub struct LeaseBreak {
 }
 
 /// Reads the body of a lease break notification from a whole message, header and body.
+#[tactic(auto, unfolding(crate::specs::Lease::lease_break_of))]
 pub fn read_lease_break(part: &[u8]) -> Result<LeaseBreak, BodyFault>
+    ensures exact { result ≡ lease_break_of part.now }
     ensures reads { Reads 44 (λ (x : LeaseBreak). IsLeaseBreak x part.now) ⊥ ⊥ part.now result }
     ensures only { (x : LeaseBreak) → IsLeaseBreak x part.now → IsOk result }
 {
@@ -93,7 +95,9 @@ pub struct LeaseAck {
 
 /// Reads the body of an acknowledgement of a lease break, or of the reply to it from a whole message, header and body. What
 /// stands in a reserved field or in one with a single written value is not looked at.
+#[tactic(auto, unfolding(crate::specs::Lease::lease_ack_of))]
 pub fn read_lease_ack(part: &[u8]) -> Result<LeaseAck, BodyFault>
+    ensures exact { result ≡ lease_ack_of part.now }
     ensures reads { Reads 36 (λ (x : LeaseAck). IsLeaseAck x part.now) ⊥ ⊥ part.now result }
     ensures only { (x : LeaseAck) → IsLeaseAck x part.now → IsOk result }
 {

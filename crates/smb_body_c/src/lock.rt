@@ -3,7 +3,7 @@
 ghost use Rattle.std.specs.Prelude.{◌≡◌, ◌≢◌, [], IsOk};
 ghost use Rattle.smb_le.specs.Numbers.{number_at};
 ghost use Rattle.smb_field.specs.Body.{Reads, WritesBody};
-ghost use Rattle.smb_body_c.specs.Lock.{lock_request, IsLockRequest};
+ghost use Rattle.smb_body_c.specs.Lock.{lock_request, IsLockRequest, lock_request_of};
 ghost use Rattle.smb_body_c.specs.declared.lock.LockRequest.{LockRequest};
 
 use smb_base::{Fid, NoMemory};
@@ -27,7 +27,9 @@ pub struct LockRequest {
 
 /// Reads the body of a LOCK request from a whole message, header and body. What stands in a reserved field or in one with a
 /// single written value is not looked at.
+#[tactic(auto, unfolding(crate::specs::Lock::lock_request_of))]
 pub fn read_lock_request(part: &[u8]) -> Result<LockRequest, BodyFault>
+    ensures exact { result ≡ lock_request_of part.now }
     ensures reads { Reads 48 (λ (x : LockRequest). IsLockRequest x part.now)
         (number_at 2 66 part.now ≢ 1) ⊥
         part.now result }

@@ -3,3 +3,4 @@ pub mod Body
 pub mod Faults
 pub mod TwoParts
 pub mod Structure
+pub mod Rows

@@ -1,8 +1,11 @@
 -- What a file is asked for (MS-FSCC 2.4): each field of a class, in the order of the table there.
-use Rattle.std.specs.Prelude.{ℕ, List, [], ◌∷◌, ◌++◌, slice_index}
+use Rattle.std.specs.Prelude.{ℕ, List, [], ◌∷◌, ◌++◌, slice_index, Result}
 use Rattle.smb_field.specs.declared.field.Field.{Field}
 use Rattle.smb_field.specs.declared.field.Field.TheVariants.{U8, U32, U64, Any16, Any32}
 use Rattle.smb_field.specs.Structure.{IsStructure}
+use Rattle.smb_field.specs.Rows.{byte, number, skip, times, value, structure}
+use Rattle.smb_info.specs.declared.fault.InfoFault.{InfoFault}
+use Rattle.smb_info.specs.declared.fault.InfoFault.TheVariants.{Short}
 use Rattle.smb_info.specs.declared.attributes.Basic.{Basic}
 use Rattle.smb_info.specs.declared.attributes.Standard.{Standard}
 use Rattle.smb_info.specs.declared.attributes.Internal.{Internal}
@@ -45,3 +48,31 @@ all x =
 -- the information begins with this
 abbrev pub IsAll : All → List ℕ → Type 0
 IsAll x info = IsStructure (all x) [] info
+
+-- each class, read by the same table
+unfoldable pub basic_of : List ℕ → Result Basic InfoFault
+basic_of = structure Short 40 (times (λ times. number 4 (λ attributes. skip 4 (value (record { times = times; attributes = attributes })))))
+
+unfoldable pub standard_of : List ℕ → Result Standard InfoFault
+standard_of =
+    structure Short 24 (number 8 (λ allocation. number 8 (λ size. number 4 (λ links. byte (λ pending. byte (λ directory. skip 2
+    (value (record { allocation_size = allocation; end_of_file = size; links = links; delete_pending = pending; directory = directory }))))))))
+
+unfoldable pub internal_of : List ℕ → Result Internal InfoFault
+internal_of = structure Short 8 (number 8 (λ number. value (record { number = number })))
+
+unfoldable pub all_of : List ℕ → Result All InfoFault
+all_of =
+    structure Short 100 (times (λ times. number 4 (λ attributes. skip 4 (number 8 (λ allocation. number 8 (λ size. number 4 (λ links.
+    byte (λ pending. byte (λ directory. skip 2 (number 8 (λ file. number 4 (λ ea_size. number 4 (λ access. number 8 (λ position.
+    number 4 (λ mode. number 4 (λ alignment. skip 4
+    (value (record {
+      basic = record { times = times; attributes = attributes };
+      standard = record { allocation_size = allocation; end_of_file = size; links = links; delete_pending = pending; directory = directory };
+      internal = record { number = file };
+      ea_size = ea_size;
+      access = access;
+      position = position;
+      mode = mode;
+      alignment = alignment;
+    }))))))))))))))))))

@@ -1,9 +1,9 @@
 //! What a file is asked for (MS-FSCC 2.4).
 
-ghost use Rattle.std.specs.Prelude.{[], IsOk};
+ghost use Rattle.std.specs.Prelude.{◌≡◌, [], IsOk};
 ghost use Rattle.smb_field.specs.Structure.{WritesStructure};
 ghost use Rattle.smb_info.specs.Reading.{ReadsInfo};
-ghost use Rattle.smb_info.specs.Attributes.{basic, IsBasic, standard, IsStandard, internal, IsInternal, all, IsAll};
+ghost use Rattle.smb_info.specs.Attributes.{basic, IsBasic, standard, IsStandard, internal, IsInternal, all, IsAll, basic_of, standard_of, internal_of, all_of};
 ghost use Rattle.smb_info.specs.declared.attributes.Basic.{Basic};
 ghost use Rattle.smb_info.specs.declared.attributes.Standard.{Standard};
 ghost use Rattle.smb_info.specs.declared.attributes.Internal.{Internal};
@@ -29,7 +29,9 @@ pub struct Basic {
 /// # Errors
 ///
 /// [`InfoFault::Short`] exactly where there are fewer than 40 bytes.
+#[tactic(auto, unfolding(crate::specs::Attributes::basic_of))]
 pub fn read_basic(info: &[u8]) -> Result<Basic, InfoFault>
+    ensures exact { result ≡ basic_of info.now }
     ensures reads { ReadsInfo 40 (λ (x : Basic). IsBasic x info.now) ⊥ info.now result }
     ensures only { (x : Basic) → IsBasic x info.now → IsOk result }
 {
@@ -86,7 +88,9 @@ pub struct Standard {
 /// # Errors
 ///
 /// [`InfoFault::Short`] exactly where there are fewer than 24 bytes.
+#[tactic(auto, unfolding(crate::specs::Attributes::standard_of))]
 pub fn read_standard(info: &[u8]) -> Result<Standard, InfoFault>
+    ensures exact { result ≡ standard_of info.now }
     ensures reads { ReadsInfo 24 (λ (x : Standard). IsStandard x info.now) ⊥ info.now result }
     ensures only { (x : Standard) → IsStandard x info.now → IsOk result }
 {
@@ -133,7 +137,9 @@ pub struct Internal {
 /// # Errors
 ///
 /// [`InfoFault::Short`] exactly where there are fewer than 8 bytes.
+#[tactic(auto, unfolding(crate::specs::Attributes::internal_of))]
 pub fn read_internal(info: &[u8]) -> Result<Internal, InfoFault>
+    ensures exact { result ≡ internal_of info.now }
     ensures reads { ReadsInfo 8 (λ (x : Internal). IsInternal x info.now) ⊥ info.now result }
     ensures only { (x : Internal) → IsInternal x info.now → IsOk result }
 {
@@ -179,7 +185,9 @@ pub struct All {
 /// # Errors
 ///
 /// [`InfoFault::Short`] exactly where there are fewer than 100 bytes.
+#[tactic(auto, unfolding(crate::specs::Attributes::all_of))]
 pub fn read_all(info: &[u8]) -> Result<All, InfoFault>
+    ensures exact { result ≡ all_of info.now }
     ensures reads { ReadsInfo 100 (λ (x : All). IsAll x info.now) ⊥ info.now result }
     ensures only { (x : All) → IsAll x info.now → IsOk result }
 {

@@ -1,11 +1,12 @@
 //! What a file is told to become (MS-FSCC 2.4).
 
-ghost use Rattle.std.specs.Prelude.{[], ◌^◌, ◌<◌, IsOk, length};
+ghost use Rattle.std.specs.Prelude.{◌≡◌, [], ◌^◌, ◌<◌, IsOk, length};
 ghost use Rattle.smb_le.specs.Numbers.{number_at};
+ghost use Rattle.smb_field.specs.Rows.{seen_as};
 ghost use Rattle.smb_field.specs.Body.{Strays};
 ghost use Rattle.smb_field.specs.Structure.{WritesStructure};
 ghost use Rattle.smb_info.specs.Reading.{ReadsInfo};
-ghost use Rattle.smb_info.specs.Change.{end_of_file, IsEndOfFile, disposition, IsDisposition, rename, IsRename, link, IsLink};
+ghost use Rattle.smb_info.specs.Change.{end_of_file, IsEndOfFile, disposition, IsDisposition, rename, IsRename, link, IsLink, end_of_file_of, disposition_of, new_name_of, seen_rename, seen_link};
 ghost use Rattle.smb_info.specs.declared.change.EndOfFile.{EndOfFile};
 ghost use Rattle.smb_info.specs.declared.change.Disposition.{Disposition};
 ghost use Rattle.smb_info.specs.declared.change.Rename.{Rename};
@@ -28,7 +29,9 @@ pub struct EndOfFile {
 /// # Errors
 ///
 /// [`InfoFault::Short`] exactly where there are fewer than 8 bytes.
+#[tactic(auto, unfolding(crate::specs::Change::end_of_file_of))]
 pub fn read_end_of_file(info: &[u8]) -> Result<EndOfFile, InfoFault>
+    ensures exact { result ≡ end_of_file_of info.now }
     ensures reads { ReadsInfo 8 (λ (x : EndOfFile). IsEndOfFile x info.now) ⊥ info.now result }
     ensures only { (x : EndOfFile) → IsEndOfFile x info.now → IsOk result }
 {
@@ -59,7 +62,9 @@ pub struct Disposition {
 /// # Errors
 ///
 /// [`InfoFault::Short`] exactly where there is no byte.
+#[tactic(auto, unfolding(crate::specs::Change::disposition_of))]
 pub fn read_disposition(info: &[u8]) -> Result<Disposition, InfoFault>
+    ensures exact { result ≡ disposition_of info.now }
     ensures reads { ReadsInfo 1 (λ (x : Disposition). IsDisposition x info.now) ⊥ info.now result }
     ensures only { (x : Disposition) → IsDisposition x info.now → IsOk result }
 {
@@ -93,7 +98,9 @@ pub struct Rename<'a> {
 /// # Errors
 ///
 /// [`InfoFault::Short`] exactly where there are fewer than 20 bytes, or the name leaves the information.
+#[tactic(auto, unfolding(crate::specs::Change::new_name_of))]
 pub fn read_rename(info: &[u8]) -> Result<Rename<'_>, InfoFault>
+    ensures exact { seen_as seen_rename result ≡ new_name_of info.now }
     ensures reads { ReadsInfo 20 (λ (x : Rename). IsRename x info.now) (Strays 20 20 (number_at 4 16 info.now) info.now) info.now result }
     ensures only { (x : Rename) → IsRename x info.now → IsOk result }
 {
@@ -145,7 +152,9 @@ pub struct Link<'a> {
 /// # Errors
 ///
 /// [`InfoFault::Short`] exactly where there are fewer than 20 bytes, or the name leaves the information.
+#[tactic(auto, unfolding(crate::specs::Change::new_name_of))]
 pub fn read_link(info: &[u8]) -> Result<Link<'_>, InfoFault>
+    ensures exact { seen_as seen_link result ≡ new_name_of info.now }
     ensures reads { ReadsInfo 20 (λ (x : Link). IsLink x info.now) (Strays 20 20 (number_at 4 16 info.now) info.now) info.now result }
     ensures only { (x : Link) → IsLink x info.now → IsOk result }
 {

@@ -1,9 +1,9 @@
 //! What a file system is asked for (MS-FSCC 2.5).
 
-ghost use Rattle.std.specs.Prelude.{[], IsOk};
+ghost use Rattle.std.specs.Prelude.{◌≡◌, [], IsOk};
 ghost use Rattle.smb_field.specs.Structure.{WritesStructure};
 ghost use Rattle.smb_info.specs.Reading.{ReadsInfo};
-ghost use Rattle.smb_info.specs.Space.{fs_full_size, IsFsFullSize};
+ghost use Rattle.smb_info.specs.Space.{fs_full_size, IsFsFullSize, fs_full_size_of};
 ghost use Rattle.smb_info.specs.declared.space.FsFullSize.{FsFullSize};
 
 use crate::fault::InfoFault;
@@ -31,7 +31,9 @@ pub struct FsFullSize {
 /// # Errors
 ///
 /// [`InfoFault::Short`] exactly where there are fewer than 32 bytes.
+#[tactic(auto, unfolding(crate::specs::Space::fs_full_size_of))]
 pub fn read_fs_full_size(info: &[u8]) -> Result<FsFullSize, InfoFault>
+    ensures exact { result ≡ fs_full_size_of info.now }
     ensures reads { ReadsInfo 32 (λ (x : FsFullSize). IsFsFullSize x info.now) ⊥ info.now result }
     ensures only { (x : FsFullSize) → IsFsFullSize x info.now → IsOk result }
 {
