@@ -21,7 +21,7 @@ use Rattle.fs_plain.specs.View.{View, Sound, calm, waits, left, ran, IsOwned}
 use Rattle.fs_plain.specs.Tidy.{IsToBeClosed, AreTidy}
 use Rattle.fs_plain.specs.Related.{Related, bare, AreStanding, AreSame}
 use Rattle.fs_plain.proofs.PlainTree.{bare_of}
-use Rattle.fs_plain.proofs.Steps.{Counts, Connection, connection, step_counts, step_leaves, step_numbers}
+use Rattle.fs_plain.proofs.Steps.{Counts, Connection, connection, step_counts, step_connection, step_leases, step_numbers}
 use Rattle.fs_plain.proofs.Opens.{step_every}
 use Rattle.fs_plain.proofs.Identity.{one_more_same}
 use Rattle.fs_plain.proofs.Carried.{act_same}
@@ -127,10 +127,10 @@ act_related run s r v who request reply old may =
           (ap (λ (x : Rep). same_reply x reply) replied ∙ reply_itself reply)),
       subst (λ (next : Replay). Related done.1 next v) (acted r who request reply (not_passed_over request may.built))
           (moved s done.1 r (record r { plain = (plain_act r who request).1; pairs = new_pair (plain_act r who request).0 reply ++ r.pairs }) v old
-          (step_leaves (grant_in reply.body) s W request).0
+          (step_connection (grant_in reply.body) s W request)
           (ap (λ (d : Rep × Share). d.1) same)
-          ((step_leaves (grant_in reply.body) s W request).1 old.leases)
-          (step_numbers (grant_in reply.body) s W request old.standing)
+          (step_leases (grant_in reply.body) s W request may.built old.leases)
+          (step_numbers (grant_in reply.body) s W request may.built old.standing)
           (subst (λ (x : Rep). AreSame (new_pair x reply ++ r.pairs) done.1.opens_made) (may.answered ∙ sym replied)
           (subst (λ (x : Rep). AreSame (new_pair done.0 x ++ r.pairs) done.1.opens_made) may.answered
           (pairs_counted r.pairs s done (step_counts (grant_in reply.body) s W request) old.pairs)))

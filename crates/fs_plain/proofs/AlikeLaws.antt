@@ -131,7 +131,7 @@ alike_step choice s p who r path built old =
       refl,
       record {
         tree = refl;
-        standing = step_numbers choice s who r old.standing;
+        standing = step_numbers choice s who r built old.standing;
         pairs = subst (λ (l : List (ℕ × ℕ)). AreSame l done.1.opens_made) (sym (pair_numbers path done.0.body p.pairs (step_names choice s who r)))
             (pairs_counted (map numbers p.pairs) s done (step_counts choice s who r) old.pairs);
         kept = old.kept;

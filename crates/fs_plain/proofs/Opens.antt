@@ -4,6 +4,7 @@ use Rattle.std.specs.Prelude.{map, ◌⊎◌, ◌||◌}
 use Rattle.std.specs.List.{AllByRecursion, list_all}
 use Rattle.std.proofs.lemmas.Bool.{false≢true}
 use Rattle.share_spec.specs.declared.connection.Grant.{Grant}
+use Rattle.share_spec.specs.declared.granting.Granting.{Granting}
 use Rattle.share_spec.specs.declared.opens.Open.{Open}
 use Rattle.share_spec.specs.declared.create.Wanted.{Wanted}
 use Rattle.share_spec.specs.declared.place.Found.{Found}
@@ -18,7 +19,8 @@ use Rattle.share_spec.specs.Names.{components, is_name}
 use Rattle.share_spec.specs.State.{has, is_directory, is_read_only, emptied, has_entries, is_pending, is_going}
 use Rattle.share_spec.specs.Reply.{unless, refused, fid_of}
 use Rattle.share_spec.specs.Place.{place_of}
-use Rattle.share_spec.specs.Create.{create_at, create_of, made, opened, open_with, overwrites, or_else, has_unshared, refusal_of_missing, refusal_of_kind, refusal_of_read_only, refusal_of_use, refusal_of_there, is_disposition}
+use Rattle.share_spec.specs.Leases.{is_elsewhere, granting_of}
+use Rattle.share_spec.specs.Create.{create_at, create_of, made, opened, open_with, overwrites, or_else, has_unshared, refusal_of_key, refusal_of_missing, refusal_of_kind, refusal_of_read_only, refusal_of_use, refusal_of_there, is_disposition}
 use Rattle.share_spec.specs.Close.{is_open_of, open_of, close_open}
 use Rattle.share_spec.specs.Query.{query_open}
 use Rattle.share_spec.specs.Step.{step_of}
@@ -41,10 +43,14 @@ failure_else : (a b : Option ℕ) → IsFailure a → IsFailure b → IsFailure 
 failure_else None b first second = second
 failure_else (Some status) b first second = first
 
-missing_fails : (s : Share) (w : Wanted) (d : ℕ) → IsFailure (refusal_of_missing s w d)
-missing_fails s w d =
-    failure_if (w.disposition == 1 || w.disposition == 4) (Some 0xC0000034) (if is_going s.entries d then Some 0xC0000056 else None) refl
-    (failure_if (is_going s.entries d) (Some 0xC0000056) None refl (record {}))
+key_fails : (s : Share) (who : Who) (w : Wanted) (node : ℕ) → IsFailure (refusal_of_key s who w node)
+key_fails s who w node = failure_if (is_elsewhere s.leases who w.lease node) (Some 0xC000000D) None refl (record {})
+
+missing_fails : (s : Share) (who : Who) (w : Wanted) (d : ℕ) → IsFailure (refusal_of_missing s who w d)
+missing_fails s who w d =
+    failure_if (w.disposition == 1 || w.disposition == 4) (Some 0xC0000034)
+    (if is_going s.entries d then Some 0xC0000056 else refusal_of_key s who w 0) refl
+    (failure_if (is_going s.entries d) (Some 0xC0000056) (refusal_of_key s who w 0) refl (key_fails s who w 0))
 
 kind_fails : (s : Share) (w : Wanted) (node : ℕ) → IsFailure (refusal_of_kind s w node)
 kind_fails s w node = by (has w.options 1 && not (is_directory s.nodes node)) (has w.options 0x40 && is_directory s.nodes node) (overwrites w.disposition && is_directory s.nodes node)
@@ -72,16 +78,23 @@ use_fails s w node = by (has_unshared s.opens node w) (has w.options 0x1000 && i
     by false true = refl
     by false false = record {}
 
-there_fails : (s : Share) (w : Wanted) (f : Found) → IsFailure (refusal_of_there s w f)
-there_fails s w f = by (is_pending s.entries f.entry) (w.disposition == 2)
+there_fails : (s : Share) (who : Who) (w : Wanted) (f : Found) → IsFailure (refusal_of_there s who w f)
+there_fails s who w f = by (is_pending s.entries f.entry) (w.disposition == 2)
   where
+    behind_read_only : Option ℕ
+    behind_read_only = or_else (refusal_of_key s who w f.node) (refusal_of_use s w f.node)
+
+    behind_kind : Option ℕ
+    behind_kind = or_else (refusal_of_read_only s w f.node) behind_read_only
+
     by : (t u : Bool) → IsFailure (if t then Some 0xC0000056 else if u then Some 0xC0000035
-        else or_else (refusal_of_kind s w f.node) (or_else (refusal_of_read_only s w f.node) (refusal_of_use s w f.node)))
+        else or_else (refusal_of_kind s w f.node) behind_kind)
     by true u = refl
     by false true = refl
     by false false =
-        failure_else (refusal_of_kind s w f.node) (or_else (refusal_of_read_only s w f.node) (refusal_of_use s w f.node)) (kind_fails s w f.node)
-        (failure_else (refusal_of_read_only s w f.node) (refusal_of_use s w f.node) (read_only_fails s w f.node) (use_fails s w f.node))
+        failure_else (refusal_of_kind s w f.node) behind_kind (kind_fails s w f.node)
+        (failure_else (refusal_of_read_only s w f.node) behind_read_only (read_only_fails s w f.node)
+        (failure_else (refusal_of_key s who w f.node) (refusal_of_use s w f.node) (key_fails s who w f.node) (use_fails s w f.node)))
 
 -- a CREATE is refused: it fails, gives no open and leaves the opens as they are
 pub record IsRefused (s : Share) (done : Rep × Share) : Type 0 where
@@ -105,43 +118,47 @@ unless_creates : (refusal : Option ℕ) (s : Share) (who : Who) (done : Rep × S
 unless_creates None s who done fails opens = inr opens
 unless_creates (Some status) s who done fails opens = inl (record { fails = fails; gives = refl; same = refl })
 
-made_opens : (s : Share) (who : Who) (w : Wanted) (d : ℕ) (name : List ℕ) → IsOpened s who (made s who w d name)
-made_opens s who w d name = record {
+made_opens : (s : Share) (who : Who) (w : Wanted) (g : Granting) (d : ℕ) (name : List ℕ) → IsOpened s who (made s who w g d name)
+made_opens s who w g d name = record {
   succeeds = refl;
-  new = open_with (s.opens_made + 1) who w (s.nodes_made + 1) (s.entries_made + 1);
+  new = open_with (s.opens_made + 1) who w g (s.nodes_made + 1) (s.entries_made + 1);
   gives = refl;
   numbered = no_zero s.opens_made;
   own = refl;
   more = refl;
 }
 
-opened_opens : (s : Share) (who : Who) (w : Wanted) (f : Found) → IsOpened s who (opened s who w f)
-opened_opens s who w f = record {
+opened_opens : (s : Share) (who : Who) (w : Wanted) (g : Granting) (f : Found) → IsOpened s who (opened s who w g f)
+opened_opens s who w g f = record {
   succeeds = refl;
-  new = open_with (s.opens_made + 1) who w f.node f.entry;
+  new = open_with (s.opens_made + 1) who w g f.node f.entry;
   gives = refl;
   numbered = no_zero s.opens_made;
   own = refl;
   more = by (overwrites w.disposition);
 }
   where
-    by : (t : Bool) → (if t then record s { nodes = map (emptied f.node) s.nodes } else s).opens ++ open_with (s.opens_made + 1) who w f.node f.entry ∷ []
-        ≡ s.opens ++ open_with (s.opens_made + 1) who w f.node f.entry ∷ []
+    by : (t : Bool) → (if t then record s { nodes = map (emptied f.node) s.nodes } else s).opens ++ open_with (s.opens_made + 1) who w g f.node f.entry ∷ []
+        ≡ s.opens ++ open_with (s.opens_made + 1) who w g f.node f.entry ∷ []
     by true = refl
     by false = refl
 
-create_at_creates : (s : Share) (who : Who) (w : Wanted) (at : Place) → Creates s who (create_at s who w at)
-create_at_creates s who w NoPath = inl (record { fails = refl; gives = refl; same = refl })
-create_at_creates s who w (Missing d name) = unless_creates (refusal_of_missing s w d) s who (made s who w d name) (missing_fails s w d) (made_opens s who w d name)
-create_at_creates s who w (There f) = unless_creates (refusal_of_there s w f) s who (opened s who w f) (there_fails s w f) (opened_opens s who w f)
+create_at_creates : (choice : Option Grant) (s : Share) (who : Who) (w : Wanted) (at : Place) → Creates s who (create_at choice s who w at)
+create_at_creates choice s who w NoPath = inl (record { fails = refl; gives = refl; same = refl })
+create_at_creates choice s who w (Missing d name) =
+    let g : Granting = granting_of choice s who w (s.nodes_made + 1) in
+    unless_creates (refusal_of_missing s who w d) s who (made s who w g d name) (missing_fails s who w d) (made_opens s who w g d name)
+create_at_creates choice s who w (There f) =
+    let g : Granting = granting_of choice s who w f.node in
+    unless_creates (refusal_of_there s who w f) s who (opened s who w g f) (there_fails s who w f) (opened_opens s who w g f)
 
-pub create_creates : (s : Share) (who : Who) (path : List ℕ) (w : Wanted) → Creates s who (create_of s who path w)
-create_creates s who path w = by (is_disposition w.disposition) (list_all is_name (components path))
+pub create_creates : (choice : Option Grant) (s : Share) (who : Who) (path : List ℕ) (w : Wanted) → Creates s who (create_of choice s who path w)
+create_creates choice s who path w = by (is_disposition w.disposition) (list_all is_name (components path))
   where
-    by : (t u : Bool) → Creates s who (if not t then refused 0xC000000D s else if not u then refused 0xC0000033 s else create_at s who w (place_of s (components path)))
+    by : (t u : Bool) → Creates s who (if not t then refused 0xC000000D s else if not u then refused 0xC0000033 s else create_at choice s who w (place_of s (components path)))
     by false u = inl (record { fails = refl; gives = refl; same = refl })
     by true false = inl (record { fails = refl; gives = refl; same = refl })
-    by true true = create_at_creates s who w (place_of s (components path))
+    by true true = create_at_creates choice s who w (place_of s (components path))
 
 -- what holds of each open still does after a request, where it holds of each open of the client whose request it is
 created_every : (P : Open → Type 0) (s : Share) (who : Who) (done : Rep × Share) → ((o : Open) → o.who ≡ who → P o) → AllByRecursion P s.opens → Creates s who done
@@ -166,8 +183,10 @@ step_every P choice s who (req.Create path access share disposition options attr
       disposition = disposition;
       options = options;
       attributes = attributes;
+      lease = lease;
+      durable = durable;
     } in
-    created_every P s who (create_of s who path w) own all (create_creates s who path w)
+    created_every P s who (create_of choice s who path w) own all (create_creates choice s who path w)
 step_every P choice s who (req.Close fid) own all = close_every P (open_of s.opens who fid) s all
 step_every P choice s who (req.Query fid) own all = query_every P (open_of s.opens who fid) s all
 step_every P choice s who (req.Flush a) own all = all

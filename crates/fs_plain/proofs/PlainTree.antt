@@ -18,7 +18,9 @@ use Rattle.share_spec.specs.Place.{below, place_of, root}
 use Rattle.share_spec.specs.Create.{create_at, create_of, made, opened, open_with, with_open, overwrites, refusal_of_missing, refusal_of_there, is_disposition}
 use Rattle.share_spec.specs.Reply.{unless, refused}
 use Rattle.share_spec.specs.Built.{is_built}
-use Rattle.share_spec.specs.PlainShare.{plain_request}
+use Rattle.share_spec.specs.PlainShare.{plain_wanted, plain_request}
+use Rattle.share_spec.specs.Leases.{no_granting, with_granting}
+use Rattle.std.proofs.lemmas.Bool.{false≢true}
 use Rattle.std.specs.List.{list_all}
 use Rattle.share_spec.specs.State.{emptied}
 use Rattle.share_spec.specs.Close.{open_of, close_open}
@@ -47,7 +49,7 @@ unless_bare : (refusal : Option ℕ) (s : Share) (done : Rep × Share) → unles
 unless_bare None s done = refl
 unless_bare (Some status) s done = refl
 
-made_bare : (s : Share) (who : Who) (w : Wanted) (d : ℕ) (name : List ℕ) → made (bare s) who w d name ≡ bare_of (made s who w d name)
+made_bare : (s : Share) (who : Who) (w : Wanted) (d : ℕ) (name : List ℕ) → made (bare s) who w no_granting d name ≡ bare_of (made s who w no_granting d name)
 made_bare s who w d name = refl
 
 -- the share, its node emptied where that is asked
@@ -58,29 +60,37 @@ perhaps_emptied_bare : (s : Share) (node : ℕ) (t : Bool) → perhaps_emptied (
 perhaps_emptied_bare s node true = refl
 perhaps_emptied_bare s node false = refl
 
-opened_bare : (s : Share) (who : Who) (w : Wanted) (f : Found) → opened (bare s) who w f ≡ bare_of (opened s who w f)
+opened_bare : (s : Share) (who : Who) (w : Wanted) (f : Found) → opened (bare s) who w no_granting f ≡ bare_of (opened s who w no_granting f)
 opened_bare s who w f =
-    ap (λ (t : Share). ((opened s who w f).0, with_open (open_with (s.opens_made + 1) who w f.node f.entry) t))
+    ap (λ (t : Share). (
+      (opened s who w no_granting f).0,
+      with_granting who no_granting f.node (with_open (open_with (s.opens_made + 1) who w no_granting f.node f.entry) t),
+    ))
     (perhaps_emptied_bare s f.node (overwrites w.disposition))
 
-create_at_bare : (s : Share) (who : Who) (w : Wanted) (at : Place) → create_at (bare s) who w at ≡ bare_of (create_at s who w at)
-create_at_bare s who w NoPath = refl
-create_at_bare s who w (Missing d name) = unless_bare (refusal_of_missing s w d) s (made s who w d name)
-create_at_bare s who w (There f) =
-    ap (unless (refusal_of_there s w f) (bare s)) (opened_bare s who w f) ∙ unless_bare (refusal_of_there s w f) s (opened s who w f)
+create_at_bare : (choice choice' : Option Grant) (s : Share) (who : Who) (w : Wanted) (at : Place)
+    → create_at choice' (bare s) who (plain_wanted w) at ≡ bare_of (create_at choice s who (plain_wanted w) at)
+create_at_bare choice choice' s who w NoPath = refl
+create_at_bare choice choice' s who w (Missing d name) =
+    unless_bare (refusal_of_missing s who (plain_wanted w) d) s (made s who (plain_wanted w) no_granting d name)
+create_at_bare choice choice' s who w (There f) =
+    ap (unless (refusal_of_there s who (plain_wanted w) f) (bare s)) (opened_bare s who (plain_wanted w) f)
+    ∙ unless_bare (refusal_of_there s who (plain_wanted w) f) s (opened s who (plain_wanted w) no_granting f)
 
-create_bare : (s : Share) (who : Who) (path : List ℕ) (w : Wanted) → create_of (bare s) who path w ≡ bare_of (create_of s who path w)
-create_bare s who path w = by (is_disposition w.disposition) (list_all is_name (components path))
+create_bare : (choice choice' : Option Grant) (s : Share) (who : Who) (path : List ℕ) (w : Wanted)
+    → create_of choice' (bare s) who path (plain_wanted w) ≡ bare_of (create_of choice s who path (plain_wanted w))
+create_bare choice choice' s who path w = by (is_disposition w.disposition) (list_all is_name (components path))
   where
     by : (t u : Bool)
         → (if not t then refused 0xC000000D (bare s)
-        else if not u then refused 0xC0000033 (bare s) else create_at (bare s) who w (place_of (bare s) (components path)))
+        else if not u then refused 0xC0000033 (bare s) else create_at choice' (bare s) who (plain_wanted w) (place_of (bare s) (components path)))
         ≡ bare_of (if not t then refused 0xC000000D s
-        else if not u then refused 0xC0000033 s else create_at s who w (place_of s (components path)))
+        else if not u then refused 0xC0000033 s else create_at choice s who (plain_wanted w) (place_of s (components path)))
     by false u = refl
     by true false = refl
     by true true =
-        ap (create_at (bare s) who w) (place_bare s (components path)) ∙ create_at_bare s who w (place_of s (components path))
+        ap (create_at choice' (bare s) who (plain_wanted w)) (place_bare s (components path))
+        ∙ create_at_bare choice choice' s who w (place_of s (components path))
 
 close_open_bare : (o : Option Open) (s : Share) → close_open o (bare s) ≡ bare_of (close_open o s)
 close_open_bare None s = refl
@@ -93,12 +103,16 @@ query_open_bare (Some o) s = refl
 -- every request that the machine takes does the same, whatever was chosen
 pub step_bare : (choice choice' : Option Grant) (s : Share) (who : Who) (r : Req) → is_built r ≡ true
     → step_of choice' (bare s) who (plain_request r) ≡ bare_of (step_of choice s who r)
-step_bare choice choice' s who (req.Create path access share disposition options attributes lease durable) built = create_bare s who path record {
+step_bare choice choice' s who (req.Create path access share disposition options attributes (Some wish) durable) built = absurd (false≢true built)
+step_bare choice choice' s who (req.Create path access share disposition options attributes None true) built = absurd (false≢true built)
+step_bare choice choice' s who (req.Create path access share disposition options attributes None false) built = create_bare choice choice' s who path record {
   access = access;
   share = share;
   disposition = disposition;
   options = options;
   attributes = attributes;
+  lease = None;
+  durable = false;
 }
 step_bare choice choice' s who (req.Close fid) built = close_open_bare (open_of s.opens who fid) s
 step_bare choice choice' s who (req.Query fid) built = query_open_bare (open_of s.opens who fid) s

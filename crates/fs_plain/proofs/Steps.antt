@@ -2,7 +2,9 @@
 use Rattle.std.proofs.Common.{rules, ◌≡◌, ℕ, true, false, [], ◌∷◌, ◌++◌, ◌+◌, ◌≤◌, refl, inl, inr, None, Some, List, Option, Bool, ◌==◌, not, if◌then◌else◌}
 use Rattle.std.specs.Prelude.{map, filter, ◌⊎◌}
 use Rattle.std.specs.List.{AllByRecursion, list_all}
+use Rattle.std.proofs.lemmas.Bool.{false≢true}
 use Rattle.share_spec.specs.declared.connection.Grant.{Grant}
+use Rattle.share_spec.specs.declared.granting.Granting.{Granting}
 use Rattle.share_spec.specs.declared.opens.Open.{Open}
 use Rattle.share_spec.specs.declared.create.Wanted.{Wanted}
 use Rattle.share_spec.specs.declared.place.Found.{Found}
@@ -17,6 +19,9 @@ use Rattle.share_spec.specs.Names.{components, is_name}
 use Rattle.share_spec.specs.State.{emptied}
 use Rattle.share_spec.specs.Reply.{unless, refused}
 use Rattle.share_spec.specs.Place.{place_of}
+use Rattle.share_spec.specs.Leases.{no_granting, granting_of, with_granting}
+use Rattle.share_spec.specs.Built.{is_built}
+use Rattle.share_spec.specs.PlainShare.{plain_wanted}
 use Rattle.share_spec.specs.Create.{create_at, create_of, made, opened, open_with, with_open, overwrites, refusal_of_missing, refusal_of_there, is_disposition}
 use Rattle.share_spec.specs.declared.lease.Lease.{Lease}
 use Rattle.share_spec.specs.declared.connection.Sent.{Sent}
@@ -39,25 +44,28 @@ unless_counts : (refusal : Option ℕ) (s : Share) (done : Rep × Share) → Cou
 unless_counts None s done counts = counts
 unless_counts (Some status) s done counts = inl (refl, refl)
 
-opened_counts : (s : Share) (who : Who) (w : Wanted) (f : Found) → Counts s (opened s who w f)
-opened_counts s who w f = inr (refl, by (overwrites w.disposition))
+opened_counts : (s : Share) (who : Who) (w : Wanted) (g : Granting) (f : Found) → Counts s (opened s who w g f)
+opened_counts s who w g f = inr (refl, by (overwrites w.disposition))
   where
     by : (t : Bool) → (if t then record s { nodes = map (emptied f.node) s.nodes } else s).opens_made + 1 ≡ s.opens_made + 1
     by true = refl
     by false = refl
 
-create_at_counts : (s : Share) (who : Who) (w : Wanted) (at : Place) → Counts s (create_at s who w at)
-create_at_counts s who w NoPath = inl (refl, refl)
-create_at_counts s who w (Missing d name) = unless_counts (refusal_of_missing s w d) s (made s who w d name) (inr (refl, refl))
-create_at_counts s who w (There f) = unless_counts (refusal_of_there s w f) s (opened s who w f) (opened_counts s who w f)
+create_at_counts : (choice : Option Grant) (s : Share) (who : Who) (w : Wanted) (at : Place) → Counts s (create_at choice s who w at)
+create_at_counts choice s who w NoPath = inl (refl, refl)
+create_at_counts choice s who w (Missing d name) =
+    unless_counts (refusal_of_missing s who w d) s (made s who w (granting_of choice s who w (s.nodes_made + 1)) d name) (inr (refl, refl))
+create_at_counts choice s who w (There f) =
+    let g : Granting = granting_of choice s who w f.node in
+    unless_counts (refusal_of_there s who w f) s (opened s who w g f) (opened_counts s who w g f)
 
-create_counts : (s : Share) (who : Who) (path : List ℕ) (w : Wanted) → Counts s (create_of s who path w)
-create_counts s who path w = by (is_disposition w.disposition) (list_all is_name (components path))
+create_counts : (choice : Option Grant) (s : Share) (who : Who) (path : List ℕ) (w : Wanted) → Counts s (create_of choice s who path w)
+create_counts choice s who path w = by (is_disposition w.disposition) (list_all is_name (components path))
   where
-    by : (t u : Bool) → Counts s (if not t then refused 0xC000000D s else if not u then refused 0xC0000033 s else create_at s who w (place_of s (components path)))
+    by : (t u : Bool) → Counts s (if not t then refused 0xC000000D s else if not u then refused 0xC0000033 s else create_at choice s who w (place_of s (components path)))
     by false u = inl (refl, refl)
     by true false = inl (refl, refl)
-    by true true = create_at_counts s who w (place_of s (components path))
+    by true true = create_at_counts choice s who w (place_of s (components path))
 
 close_counts : (o : Option Open) (s : Share) → Counts s (close_open o s)
 close_counts None s = inl (refl, refl)
@@ -68,12 +76,14 @@ query_counts None s = inl (refl, refl)
 query_counts (Some o) s = inl (refl, refl)
 
 pub step_counts : (choice : Option Grant) (s : Share) (who : Who) (r : Req) → Counts s (step_of choice s who r)
-step_counts choice s who (req.Create path access share disposition options attributes lease durable) = create_counts s who path record {
+step_counts choice s who (req.Create path access share disposition options attributes lease durable) = create_counts choice s who path record {
   access = access;
   share = share;
   disposition = disposition;
   options = options;
   attributes = attributes;
+  lease = lease;
+  durable = durable;
 }
 step_counts choice s who (req.Close fid) = close_counts (open_of s.opens who fid) s
 step_counts choice s who (req.Query fid) = query_counts (open_of s.opens who fid) s
@@ -103,71 +113,143 @@ pub record Connection : Type 0 where
 abbrev pub connection : Share → Connection
 connection s = record { connected = s.connected; sent = s.sent; owed = s.owed; held = s.held; grants = s.grants }
 
--- it leaves the connection alone, and a share without leases stays one
-abbrev pub Leaves : Share → Rep × Share → Type 0
-Leaves s done = (connection done.1 ≡ connection s) × (s.leases ≡ [] → done.1.leases ≡ [])
+-- it leaves the connection alone
+abbrev pub LeavesConnection : Share → Rep × Share → Type 0
+LeavesConnection s done = connection done.1 ≡ connection s
 
-kept_none : (opens : List Open) (leases : List Lease) → leases ≡ [] → kept_leases opens leases ≡ []
-kept_none opens leases none = rw none refl
+unless_connection : (refusal : Option ℕ) (s : Share) (done : Rep × Share) → LeavesConnection s done → LeavesConnection s (unless refusal s done)
+unless_connection None s done holds = holds
+unless_connection (Some status) s done holds = refl
 
-unless_leaves : (refusal : Option ℕ) (s : Share) (done : Rep × Share) → Leaves s done → Leaves s (unless refusal s done)
-unless_leaves None s done holds = holds
-unless_leaves (Some status) s done holds = (refl, λ none. none)
-
-opened_leaves : (s : Share) (who : Who) (w : Wanted) (f : Found) → Leaves s (opened s who w f)
-opened_leaves s who w f = by (overwrites w.disposition)
+opened_connection : (s : Share) (who : Who) (w : Wanted) (g : Granting) (f : Found) → LeavesConnection s (opened s who w g f)
+opened_connection s who w g f = by (overwrites w.disposition)
   where
     by : (t : Bool)
-        → (connection (with_open (open_with (s.opens_made + 1) who w f.node f.entry) (if t then record s { nodes = map (emptied f.node) s.nodes } else s)) ≡ connection s)
-        × (s.leases ≡ [] → (if t then record s { nodes = map (emptied f.node) s.nodes } else s).leases ≡ [])
-    by true = (refl, λ none. none)
-    by false = (refl, λ none. none)
+        → connection (with_granting who g f.node (with_open (open_with (s.opens_made + 1) who w g f.node f.entry) (if t then record s { nodes = map (emptied f.node) s.nodes } else s)))
+        ≡ connection s
+    by true = refl
+    by false = refl
 
-create_at_leaves : (s : Share) (who : Who) (w : Wanted) (at : Place) → Leaves s (create_at s who w at)
-create_at_leaves s who w NoPath = (refl, λ none. none)
-create_at_leaves s who w (Missing d name) = unless_leaves (refusal_of_missing s w d) s (made s who w d name) (refl, λ none. none)
-create_at_leaves s who w (There f) = unless_leaves (refusal_of_there s w f) s (opened s who w f) (opened_leaves s who w f)
+create_at_connection : (choice : Option Grant) (s : Share) (who : Who) (w : Wanted) (at : Place) → LeavesConnection s (create_at choice s who w at)
+create_at_connection choice s who w NoPath = refl
+create_at_connection choice s who w (Missing d name) =
+    unless_connection (refusal_of_missing s who w d) s (made s who w (granting_of choice s who w (s.nodes_made + 1)) d name) refl
+create_at_connection choice s who w (There f) =
+    let g : Granting = granting_of choice s who w f.node in
+    unless_connection (refusal_of_there s who w f) s (opened s who w g f) (opened_connection s who w g f)
 
-create_leaves : (s : Share) (who : Who) (path : List ℕ) (w : Wanted) → Leaves s (create_of s who path w)
-create_leaves s who path w = by (is_disposition w.disposition) (list_all is_name (components path))
+create_connection : (choice : Option Grant) (s : Share) (who : Who) (path : List ℕ) (w : Wanted) → LeavesConnection s (create_of choice s who path w)
+create_connection choice s who path w = by (is_disposition w.disposition) (list_all is_name (components path))
   where
-    by : (t u : Bool) → Leaves s (if not t then refused 0xC000000D s else if not u then refused 0xC0000033 s else create_at s who w (place_of s (components path)))
-    by false u = (refl, λ none. none)
-    by true false = (refl, λ none. none)
-    by true true = create_at_leaves s who w (place_of s (components path))
+    by : (t u : Bool) → LeavesConnection s (if not t then refused 0xC000000D s else if not u then refused 0xC0000033 s else create_at choice s who w (place_of s (components path)))
+    by false u = refl
+    by true false = refl
+    by true true = create_at_connection choice s who w (place_of s (components path))
 
-close_leaves : (o : Option Open) (s : Share) → Leaves s (close_open o s)
-close_leaves None s = (refl, λ none. none)
-close_leaves (Some o) s = (refl, kept_none (closed o s).opens s.leases)
+close_connection : (o : Option Open) (s : Share) → LeavesConnection s (close_open o s)
+close_connection None s = refl
+close_connection (Some o) s = refl
 
-query_leaves : (o : Option Open) (s : Share) → Leaves s (query_open o s)
-query_leaves None s = (refl, λ none. none)
-query_leaves (Some o) s = (refl, λ none. none)
+query_connection : (o : Option Open) (s : Share) → LeavesConnection s (query_open o s)
+query_connection None s = refl
+query_connection (Some o) s = refl
 
-pub step_leaves : (choice : Option Grant) (s : Share) (who : Who) (r : Req) → Leaves s (step_of choice s who r)
-step_leaves choice s who (req.Create path access share disposition options attributes lease durable) = create_leaves s who path record {
+pub step_connection : (choice : Option Grant) (s : Share) (who : Who) (r : Req) → LeavesConnection s (step_of choice s who r)
+step_connection choice s who (req.Create path access share disposition options attributes lease durable) = create_connection choice s who path record {
   access = access;
   share = share;
   disposition = disposition;
   options = options;
   attributes = attributes;
+  lease = lease;
+  durable = durable;
 }
-step_leaves choice s who (req.Close fid) = close_leaves (open_of s.opens who fid) s
-step_leaves choice s who (req.Query fid) = query_leaves (open_of s.opens who fid) s
-step_leaves choice s who (req.Flush a) = (refl, λ none. none)
-step_leaves choice s who (req.Room a) = (refl, λ none. none)
-step_leaves choice s who (req.Read a b c) = (refl, λ none. none)
-step_leaves choice s who (req.Write a b c) = (refl, λ none. none)
-step_leaves choice s who (req.Lock a b c d) = (refl, λ none. none)
-step_leaves choice s who (req.Unlock a b c) = (refl, λ none. none)
-step_leaves choice s who (req.List a b c) = (refl, λ none. none)
-step_leaves choice s who (req.SetBasic a b) = (refl, λ none. none)
-step_leaves choice s who (req.SetEnd a b) = (refl, λ none. none)
-step_leaves choice s who (req.SetPending a b) = (refl, λ none. none)
-step_leaves choice s who (req.Rename a b c) = (refl, λ none. none)
-step_leaves choice s who (req.LinkTo a b c) = (refl, λ none. none)
-step_leaves choice s who (req.Ack a b) = (refl, λ none. none)
-step_leaves choice s who (req.Reclaim a b) = (refl, λ none. none)
+step_connection choice s who (req.Close fid) = close_connection (open_of s.opens who fid) s
+step_connection choice s who (req.Query fid) = query_connection (open_of s.opens who fid) s
+step_connection choice s who (req.Flush a) = refl
+step_connection choice s who (req.Room a) = refl
+step_connection choice s who (req.Read a b c) = refl
+step_connection choice s who (req.Write a b c) = refl
+step_connection choice s who (req.Lock a b c d) = refl
+step_connection choice s who (req.Unlock a b c) = refl
+step_connection choice s who (req.List a b c) = refl
+step_connection choice s who (req.SetBasic a b) = refl
+step_connection choice s who (req.SetEnd a b) = refl
+step_connection choice s who (req.SetPending a b) = refl
+step_connection choice s who (req.Rename a b c) = refl
+step_connection choice s who (req.LinkTo a b c) = refl
+step_connection choice s who (req.Ack a b) = refl
+step_connection choice s who (req.Reclaim a b) = refl
+
+-- a share without leases stays one, where none is wanted
+abbrev pub GrantsNoLease : Share → Rep × Share → Type 0
+GrantsNoLease s done = s.leases ≡ [] → done.1.leases ≡ []
+
+kept_none : (opens : List Open) (leases : List Lease) → leases ≡ [] → kept_leases opens leases ≡ []
+kept_none opens leases none = rw none refl
+
+unless_no_lease : (refusal : Option ℕ) (s : Share) (done : Rep × Share) → GrantsNoLease s done → GrantsNoLease s (unless refusal s done)
+unless_no_lease None s done holds = holds
+unless_no_lease (Some status) s done holds = λ none. none
+
+opened_no_lease : (s : Share) (who : Who) (w : Wanted) (f : Found) → GrantsNoLease s (opened s who w no_granting f)
+opened_no_lease s who w f = by (overwrites w.disposition)
+  where
+    by : (t : Bool) → s.leases ≡ [] → (if t then record s { nodes = map (emptied f.node) s.nodes } else s).leases ≡ []
+    by true none = none
+    by false none = none
+
+create_at_no_lease : (choice : Option Grant) (s : Share) (who : Who) (w : Wanted) (at : Place) → GrantsNoLease s (create_at choice s who (plain_wanted w) at)
+create_at_no_lease choice s who w NoPath = λ none. none
+create_at_no_lease choice s who w (Missing d name) =
+    unless_no_lease (refusal_of_missing s who (plain_wanted w) d) s (made s who (plain_wanted w) no_granting d name) (λ none. none)
+create_at_no_lease choice s who w (There f) =
+    unless_no_lease (refusal_of_there s who (plain_wanted w) f) s (opened s who (plain_wanted w) no_granting f) (opened_no_lease s who (plain_wanted w) f)
+
+create_no_lease : (choice : Option Grant) (s : Share) (who : Who) (path : List ℕ) (w : Wanted) → GrantsNoLease s (create_of choice s who path (plain_wanted w))
+create_no_lease choice s who path w = by (is_disposition w.disposition) (list_all is_name (components path))
+  where
+    by : (t u : Bool) → GrantsNoLease s (if not t then refused 0xC000000D s else if not u then refused 0xC0000033 s else create_at choice s who (plain_wanted w) (place_of s (components path)))
+    by false u = λ none. none
+    by true false = λ none. none
+    by true true = create_at_no_lease choice s who w (place_of s (components path))
+
+close_no_lease : (o : Option Open) (s : Share) → GrantsNoLease s (close_open o s)
+close_no_lease None s = λ none. none
+close_no_lease (Some o) s = kept_none (closed o s).opens s.leases
+
+query_no_lease : (o : Option Open) (s : Share) → GrantsNoLease s (query_open o s)
+query_no_lease None s = λ none. none
+query_no_lease (Some o) s = λ none. none
+
+pub step_leases : (choice : Option Grant) (s : Share) (who : Who) (r : Req) → is_built r ≡ true → GrantsNoLease s (step_of choice s who r)
+step_leases choice s who (req.Create path access share disposition options attributes (Some wish) durable) built = absurd (false≢true built)
+step_leases choice s who (req.Create path access share disposition options attributes None true) built = absurd (false≢true built)
+step_leases choice s who (req.Create path access share disposition options attributes None false) built = create_no_lease choice s who path record {
+  access = access;
+  share = share;
+  disposition = disposition;
+  options = options;
+  attributes = attributes;
+  lease = None;
+  durable = false;
+}
+step_leases choice s who (req.Close fid) built = close_no_lease (open_of s.opens who fid) s
+step_leases choice s who (req.Query fid) built = query_no_lease (open_of s.opens who fid) s
+step_leases choice s who (req.Flush a) built = λ none. none
+step_leases choice s who (req.Room a) built = λ none. none
+step_leases choice s who (req.Read a b c) built = λ none. none
+step_leases choice s who (req.Write a b c) built = λ none. none
+step_leases choice s who (req.Lock a b c d) built = λ none. none
+step_leases choice s who (req.Unlock a b c) built = λ none. none
+step_leases choice s who (req.List a b c) built = λ none. none
+step_leases choice s who (req.SetBasic a b) built = λ none. none
+step_leases choice s who (req.SetEnd a b) built = λ none. none
+step_leases choice s who (req.SetPending a b) built = λ none. none
+step_leases choice s who (req.Rename a b c) built = λ none. none
+step_leases choice s who (req.LinkTo a b c) built = λ none. none
+step_leases choice s who (req.Ack a b) built = λ none. none
+step_leases choice s who (req.Reclaim a b) built = λ none. none
 
 abbrev pub KeepsNumbers : Share → Rep × Share → Type 0
 KeepsNumbers s done = AreStanding s → AreStanding done.1
@@ -210,25 +292,27 @@ unless_numbers : (refusal : Option ℕ) (s : Share) (done : Rep × Share) → Ke
 unless_numbers None s done holds = holds
 unless_numbers (Some status) s done holds = (λ all. all)
 
-opened_numbers : (s : Share) (who : Who) (w : Wanted) (f : Found) → KeepsNumbers s (opened s who w f)
+opened_numbers : (s : Share) (who : Who) (w : Wanted) (f : Found) → KeepsNumbers s (opened s who w no_granting f)
 opened_numbers s who w f = by (overwrites w.disposition)
   where
-    by : (t : Bool) → AreStanding s → AreStanding (with_open (open_with (s.opens_made + 1) who w f.node f.entry) (if t then record s { nodes = map (emptied f.node) s.nodes } else s))
-    by true all = one_more_numbered s.opens_made s.opens (open_with (s.opens_made + 1) who w f.node f.entry) refl refl refl all
-    by false all = one_more_numbered s.opens_made s.opens (open_with (s.opens_made + 1) who w f.node f.entry) refl refl refl all
+    by : (t : Bool) → AreStanding s → AreStanding (with_open (open_with (s.opens_made + 1) who w no_granting f.node f.entry) (if t then record s { nodes = map (emptied f.node) s.nodes } else s))
+    by true all = one_more_numbered s.opens_made s.opens (open_with (s.opens_made + 1) who w no_granting f.node f.entry) refl refl refl all
+    by false all = one_more_numbered s.opens_made s.opens (open_with (s.opens_made + 1) who w no_granting f.node f.entry) refl refl refl all
 
-create_at_numbers : (s : Share) (who : Who) (w : Wanted) (at : Place) → KeepsNumbers s (create_at s who w at)
-create_at_numbers s who w NoPath = (λ all. all)
-create_at_numbers s who w (Missing d name) = unless_numbers (refusal_of_missing s w d) s (made s who w d name) (λ all. one_more_numbered s.opens_made s.opens (open_with (s.opens_made + 1) who w (s.nodes_made + 1) (s.entries_made + 1)) refl refl refl all)
-create_at_numbers s who w (There f) = unless_numbers (refusal_of_there s w f) s (opened s who w f) (opened_numbers s who w f)
+create_at_numbers : (choice : Option Grant) (s : Share) (who : Who) (w : Wanted) (at : Place) → KeepsNumbers s (create_at choice s who (plain_wanted w) at)
+create_at_numbers choice s who w NoPath = (λ all. all)
+create_at_numbers choice s who w (Missing d name) =
+    unless_numbers (refusal_of_missing s who (plain_wanted w) d) s (made s who (plain_wanted w) no_granting d name) (λ all. one_more_numbered s.opens_made s.opens (open_with (s.opens_made + 1) who w no_granting (s.nodes_made + 1) (s.entries_made + 1)) refl refl refl all)
+create_at_numbers choice s who w (There f) =
+    unless_numbers (refusal_of_there s who (plain_wanted w) f) s (opened s who (plain_wanted w) no_granting f) (opened_numbers s who (plain_wanted w) f)
 
-create_numbers : (s : Share) (who : Who) (path : List ℕ) (w : Wanted) → KeepsNumbers s (create_of s who path w)
-create_numbers s who path w = by (is_disposition w.disposition) (list_all is_name (components path))
+create_numbers : (choice : Option Grant) (s : Share) (who : Who) (path : List ℕ) (w : Wanted) → KeepsNumbers s (create_of choice s who path (plain_wanted w))
+create_numbers choice s who path w = by (is_disposition w.disposition) (list_all is_name (components path))
   where
-    by : (t u : Bool) → KeepsNumbers s (if not t then refused 0xC000000D s else if not u then refused 0xC0000033 s else create_at s who w (place_of s (components path)))
+    by : (t u : Bool) → KeepsNumbers s (if not t then refused 0xC000000D s else if not u then refused 0xC0000033 s else create_at choice s who (plain_wanted w) (place_of s (components path)))
     by false u = (λ all. all)
     by true false = (λ all. all)
-    by true true = create_at_numbers s who w (place_of s (components path))
+    by true true = create_at_numbers choice s who w (place_of s (components path))
 
 close_numbers : (o : Option Open) (s : Share) → KeepsNumbers s (close_open o s)
 close_numbers None s = (λ all. all)
@@ -241,30 +325,34 @@ query_numbers : (o : Option Open) (s : Share) → KeepsNumbers s (query_open o s
 query_numbers None s = (λ all. all)
 query_numbers (Some o) s = (λ all. all)
 
-pub step_numbers : (choice : Option Grant) (s : Share) (who : Who) (r : Req) → KeepsNumbers s (step_of choice s who r)
-step_numbers choice s who (req.Create path access share disposition options attributes lease durable) = create_numbers s who path record {
+pub step_numbers : (choice : Option Grant) (s : Share) (who : Who) (r : Req) → is_built r ≡ true → KeepsNumbers s (step_of choice s who r)
+step_numbers choice s who (req.Create path access share disposition options attributes (Some wish) durable) built = absurd (false≢true built)
+step_numbers choice s who (req.Create path access share disposition options attributes None true) built = absurd (false≢true built)
+step_numbers choice s who (req.Create path access share disposition options attributes None false) built = create_numbers choice s who path record {
   access = access;
   share = share;
   disposition = disposition;
   options = options;
   attributes = attributes;
+  lease = None;
+  durable = false;
 }
-step_numbers choice s who (req.Close fid) = close_numbers (open_of s.opens who fid) s
-step_numbers choice s who (req.Query fid) = query_numbers (open_of s.opens who fid) s
-step_numbers choice s who (req.Flush a) = (λ all. all)
-step_numbers choice s who (req.Room a) = (λ all. all)
-step_numbers choice s who (req.Read a b c) = (λ all. all)
-step_numbers choice s who (req.Write a b c) = (λ all. all)
-step_numbers choice s who (req.Lock a b c d) = (λ all. all)
-step_numbers choice s who (req.Unlock a b c) = (λ all. all)
-step_numbers choice s who (req.List a b c) = (λ all. all)
-step_numbers choice s who (req.SetBasic a b) = (λ all. all)
-step_numbers choice s who (req.SetEnd a b) = (λ all. all)
-step_numbers choice s who (req.SetPending a b) = (λ all. all)
-step_numbers choice s who (req.Rename a b c) = (λ all. all)
-step_numbers choice s who (req.LinkTo a b c) = (λ all. all)
-step_numbers choice s who (req.Ack a b) = (λ all. all)
-step_numbers choice s who (req.Reclaim a b) = (λ all. all)
+step_numbers choice s who (req.Close fid) built = close_numbers (open_of s.opens who fid) s
+step_numbers choice s who (req.Query fid) built = query_numbers (open_of s.opens who fid) s
+step_numbers choice s who (req.Flush a) built = (λ all. all)
+step_numbers choice s who (req.Room a) built = (λ all. all)
+step_numbers choice s who (req.Read a b c) built = (λ all. all)
+step_numbers choice s who (req.Write a b c) built = (λ all. all)
+step_numbers choice s who (req.Lock a b c d) built = (λ all. all)
+step_numbers choice s who (req.Unlock a b c) built = (λ all. all)
+step_numbers choice s who (req.List a b c) built = (λ all. all)
+step_numbers choice s who (req.SetBasic a b) built = (λ all. all)
+step_numbers choice s who (req.SetEnd a b) built = (λ all. all)
+step_numbers choice s who (req.SetPending a b) built = (λ all. all)
+step_numbers choice s who (req.Rename a b c) built = (λ all. all)
+step_numbers choice s who (req.LinkTo a b c) built = (λ all. all)
+step_numbers choice s who (req.Ack a b) built = (λ all. all)
+step_numbers choice s who (req.Reclaim a b) built = (λ all. all)
 
 -- a request's reply names its open by the number in both halves
 pub no_zero : (n : ℕ) → (n + 1 == 0) ≡ false
@@ -274,18 +362,20 @@ unless_names : (refusal : Option ℕ) (s : Share) (done : Rep × Share) → Name
 unless_names None s done names = names
 unless_names (Some status) s done names = record {}
 
-create_at_names : (s : Share) (who : Who) (w : Wanted) (at : Place) → Names (create_at s who w at).0
-create_at_names s who w NoPath = record {}
-create_at_names s who w (Missing d name) = unless_names (refusal_of_missing s w d) s (made s who w d name) (refl, no_zero s.opens_made)
-create_at_names s who w (There f) = unless_names (refusal_of_there s w f) s (opened s who w f) (refl, no_zero s.opens_made)
+create_at_names : (choice : Option Grant) (s : Share) (who : Who) (w : Wanted) (at : Place) → Names (create_at choice s who w at).0
+create_at_names choice s who w NoPath = record {}
+create_at_names choice s who w (Missing d name) =
+    unless_names (refusal_of_missing s who w d) s (made s who w (granting_of choice s who w (s.nodes_made + 1)) d name) (refl, no_zero s.opens_made)
+create_at_names choice s who w (There f) =
+    unless_names (refusal_of_there s who w f) s (opened s who w (granting_of choice s who w f.node) f) (refl, no_zero s.opens_made)
 
-create_names : (s : Share) (who : Who) (path : List ℕ) (w : Wanted) → Names (create_of s who path w).0
-create_names s who path w = by (is_disposition w.disposition) (list_all is_name (components path))
+create_names : (choice : Option Grant) (s : Share) (who : Who) (path : List ℕ) (w : Wanted) → Names (create_of choice s who path w).0
+create_names choice s who path w = by (is_disposition w.disposition) (list_all is_name (components path))
   where
-    by : (t u : Bool) → Names (if not t then refused 0xC000000D s else if not u then refused 0xC0000033 s else create_at s who w (place_of s (components path))).0
+    by : (t u : Bool) → Names (if not t then refused 0xC000000D s else if not u then refused 0xC0000033 s else create_at choice s who w (place_of s (components path))).0
     by false u = record {}
     by true false = record {}
-    by true true = create_at_names s who w (place_of s (components path))
+    by true true = create_at_names choice s who w (place_of s (components path))
 
 close_names : (o : Option Open) (s : Share) → Names (close_open o s).0
 close_names None s = record {}
@@ -296,12 +386,14 @@ query_names None s = record {}
 query_names (Some o) s = record {}
 
 pub step_names : (choice : Option Grant) (s : Share) (who : Who) (r : Req) → Names (step_of choice s who r).0
-step_names choice s who (req.Create path access share disposition options attributes lease durable) = create_names s who path record {
+step_names choice s who (req.Create path access share disposition options attributes lease durable) = create_names choice s who path record {
   access = access;
   share = share;
   disposition = disposition;
   options = options;
   attributes = attributes;
+  lease = lease;
+  durable = durable;
 }
 step_names choice s who (req.Close fid) = close_names (open_of s.opens who fid) s
 step_names choice s who (req.Query fid) = query_names (open_of s.opens who fid) s

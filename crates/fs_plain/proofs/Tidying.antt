@@ -362,9 +362,9 @@ pub wish_tidy : (choice : Option Grant) (s : Share) (running : List Running) (c 
     → running_with c.number running ≡ Some c → c.rest ≡ Ask wish rest → AllByRecursion (IsStanding s.opens_made) s.opens → AreTidy running s.opens
     → TidyAfter running c rest (step_of choice s us (wish_of (plain_fid c.opened) wish))
 wish_tidy choice s running c (Opening path access disposition options) rest found asks stands old =
-    let w : Wanted = record { access = access; share = 7; disposition = disposition; options = options; attributes = wished_attributes options } in
-    create_tidy s running c path access disposition options rest (create_of s us path w) found asks
-    (subst (Tidies (length c.opened)) asks (running_holds IsTidy c.number running c found old.calls).0) old (create_creates s us path w)
+    let w : Wanted = record { access = access; share = 7; disposition = disposition; options = options; attributes = wished_attributes options; lease = None; durable = false } in
+    create_tidy s running c path access disposition options rest (create_of choice s us path w) found asks
+    (subst (Tidies (length c.opened)) asks (running_holds IsTidy c.number running c found old.calls).0) old (create_creates choice s us path w)
 wish_tidy choice s running c (Query file) rest found asks stands old =
     let named : Option Open = open_of s.opens us (fid_of (plain_file c.opened file)) in
     let closing : AllByRecursion (IsToBeClosed running) (query_open named s).1.opens = query_every (IsToBeClosed running) named s old.closing in

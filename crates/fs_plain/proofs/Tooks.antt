@@ -26,7 +26,7 @@ use Rattle.fs_plain.specs.Taken.{plain_fid, wish_of, with_opened, is_wished, aft
 use Rattle.fs_plain.specs.View.{Item, Flight, View, same_flying, item_with, flight_with, flights_but, left, is_of_call, is_owned_by, IsFor, IsOf, Sound, calm, waits, reply_for, reply_of_flying, rest_after, opened_after, ran}
 use Rattle.fs_plain.specs.Related.{Related, bare, IsOther, AreDistinct, IsNamed}
 use Rattle.fs_plain.proofs.PlainTree.{bare_of, step_bare}
-use Rattle.fs_plain.proofs.Steps.{step_names, Connection, connection, step_counts, step_leaves, step_numbers}
+use Rattle.fs_plain.proofs.Steps.{step_names, Connection, connection, step_counts, step_connection, step_leases, step_numbers}
 use Rattle.fs_plain.proofs.Acts.{pairs_counted}
 use Rattle.fs_plain.proofs.Tidying.{TidyAfter, wish_tidy}
 use Rattle.fs_plain.proofs.Lookups.{waiting_but, no_reply, left_interim, left_reply, left_aside, sound_interim, sound_reply, sound_aside, replies_interim, replies_aside, reply_there, reply_elsewhere}
@@ -351,7 +351,8 @@ owned_taken s r v f p old n i o wish rest found owner item flying asks owned num
     let coming : List Owed = old.paid ++ s.owed in
     let request : Req = wish_of (plain_fid i.opened) wish in
     let done : Rep × Share = step_of (choice_now s.grants) s us request in
-    let leaves : (connection done.1 ≡ connection s) × (s.leases ≡ [] → done.1.leases ≡ []) = step_leaves (choice_now s.grants) s us request in
+    let built : is_built request ≡ true = wish_built i.opened wish in
+    let leaves : connection done.1 ≡ connection s = step_connection (choice_now s.grants) s us request in
     let new : Owed = owed.Reply f.mid f.message done.0 in
     let c : Running = ran coming i in
     let none : reply_for f.mid coming ≡ None = no_reply f.mid v.flights coming f found in
@@ -359,7 +360,7 @@ owned_taken s r v f p old n i o wish rest found owner item flying asks owned num
     ap (λ (k : ℕ). running_with k r.running) number ∙ ap (running_with n) old.running ∙ runs coming n v.items ∙ ap (option_map (ran coming)) item in
     let left_over : c.rest ≡ Ask wish rest = not_come coming f.mid i flying none ∙ asks in
     let joins : coming ++ new ∷ [] ≡ old.paid ++ (done.1.owed ++ new ∷ []) =
-    append_assoc old.paid s.owed (new ∷ []) ∙ ap (λ (k : Connection). old.paid ++ (k.owed ++ new ∷ [])) (sym leaves.0) in
+    append_assoc old.paid s.owed (new ∷ []) ∙ ap (λ (k : Connection). old.paid ++ (k.owed ++ new ∷ [])) (sym leaves) in
     let plainly : plain_step r.plain us (wish_of (plain_fid c.opened) wish) ≡ bare_of done =
     ap (λ (t : Share). plain_step t us (wish_of (plain_fid c.opened) wish)) old.tree
     ∙ ap (λ (l : List ℕ). plain_step (bare s) us (wish_of (plain_fid l) wish)) (not_opened coming f.mid i flying none)
@@ -375,12 +376,12 @@ owned_taken s r v f p old n i o wish rest found owner item flying asks owned num
           ∙ ap odd_unless (wished_itself i.opened wish),
       subst (λ (next : Replay). Related (after_done (waiting_as f p) request done) next v) next_is (record {
         tree = refl;
-        leases = leaves.1 old.leases;
-        standing = step_numbers (choice_now s.grants) s us request old.standing;
+        leases = step_leases (choice_now s.grants) s us request built old.leases;
+        standing = step_numbers (choice_now s.grants) s us request built old.standing;
         pairs = pairs_counted r.pairs s done (step_counts (choice_now s.grants) s us request) old.pairs;
         kept = old.kept;
-        connected = ap (λ (k : Connection). k.connected) leaves.0 ∙ old.connected;
-        held = ap (λ (k : Connection). k.held) leaves.0 ∙ old.held;
+        connected = ap (λ (k : Connection). k.connected) leaves ∙ old.connected;
+        held = ap (λ (k : Connection). k.held) leaves ∙ old.held;
         announced = old.announced;
         begun = old.begun;
         paid = old.paid;
@@ -388,7 +389,7 @@ owned_taken s r v f p old n i o wish rest found owner item flying asks owned num
         sound = subst (Sound v.flights) joins (sound_reply f.mid f.message done.0 v.flights coming old.sound
             (step_names (choice_now s.grants) s us request, subst (IsFor true f.message) (sym found) (refl, ap is_of_call owner)));
         sent = behind f.mid done.0 (is_creating request) (sent_but f.mid done.1.sent) (left v.flights coming)
-            (ap (λ (k : Connection). map calm (sent_but f.mid k.sent)) leaves.0 ∙ waiting_but f.mid s.sent (left v.flights coming) old.sent)
+            (ap (λ (k : Connection). map calm (sent_but f.mid k.sent)) leaves ∙ waiting_but f.mid s.sent (left v.flights coming) old.sent)
             ∙ ap (map waits) (sym (left_reply f.mid f.message done.0 v.flights coming) ∙ ap (left v.flights) joins);
         running = ap (λ (k : Running). with_running k r.running) (came_on coming f.mid f.message done.0 i wish rest flying none asks)
             ∙ ap (with_running (ran (coming ++ new ∷ []) i)) old.running

@@ -30,6 +30,7 @@ use Rattle.share_spec.specs.Reply.{of_status}
 use Rattle.share_spec.specs.Close.{is_key_of, closed}
 use Rattle.share_spec.specs.Cut.{all_closed}
 use Rattle.share_spec.specs.Step.{step_of}
+use Rattle.share_spec.specs.Built.{is_built}
 use Rattle.smb_link.specs.declared.event.Event.{Event}
 use Rattle.smb_link.specs.declared.event.Event.TheVariants as event
 use Rattle.fs_plain.specs.Wire.{has_body}
@@ -39,9 +40,10 @@ use Rattle.fs_plain.specs.World.{us, grant_in, requests_in, messages_in, message
 use Rattle.fs_plain.specs.Ahead.{still_to_come, is_final, choice_of, is_opened, choice_among, ahead}
 use Rattle.fs_plain.specs.Honest.{ArePaid, HonestFrom, IsHonest}
 use Rattle.fs_plain.specs.Moves.{at_start}
-use Rattle.fs_plain.proofs.Steps.{Connection, connection, step_leaves}
+use Rattle.fs_plain.proofs.Steps.{Connection, connection, step_connection}
 use Rattle.share_box.specs.Truth.{IsBare, AreBare, IsAlwaysHonest}
 use Rattle.share_box.proofs.SameShare.{step_grants}
+use Rattle.share_box.proofs.Built.{IsBuiltIn, asked_built, resolved_built}
 
 -- the choice that a message tells, if it is a final reply
 abbrev told_by : Result Head HeadFault → List ℕ → Option Grant
@@ -198,23 +200,24 @@ sent_passes : (s : Share) (requests : List Sent) (t : Bool) → Passes s (if t t
 sent_passes s requests true = same_passes s _ refl refl
 sent_passes s requests false = same_passes s _ refl refl
 
-done_passes : (s : Share) (x : Sent) (r : Req) (refusal : Option ℕ) (r' : Req) (choice : Option Grant)
+done_passes : (s : Share) (x : Sent) (r : Req) (refusal : Option ℕ) (r' : Req) (choice : Option Grant) → is_built r' ≡ true
     → Passes s (after_done x r (unless_refused_before refusal s (step_of choice s us r')))
-done_passes s x r None r' choice =
-    let leaves : connection (step_of choice s us r').1 ≡ connection s = (step_leaves choice s us r').0 in
+done_passes s x r None r' choice built =
+    let leaves : connection (step_of choice s us r').1 ≡ connection s = step_connection choice s us r' in
     one_more_owed s _ (owed.Reply x.mid x.message (step_of choice s us r').0) (ap (λ (c : Connection). c.held) leaves)
-    (ap (λ (c : Connection). c.owed ++ owed.Reply x.mid x.message (step_of choice s us r').0 ∷ []) leaves) (step_grants choice s us r')
-done_passes s x r (Some status) r' choice = one_more_owed s _ (owed.Reply x.mid x.message (of_status status)) refl refl refl
+    (ap (λ (c : Connection). c.owed ++ owed.Reply x.mid x.message (step_of choice s us r').0 ∷ []) leaves) (step_grants choice s us r' built)
+done_passes s x r (Some status) r' choice built = one_more_owed s _ (owed.Reply x.mid x.message (of_status status)) refl refl refl
 
-taking_passes : (s : Share) (x : Sent) (a : Option WireRequest) → Passes s (after_taking a x s)
-taking_passes s x None = same_passes s s refl refl
-taking_passes s x (Some WireRequest.Aside) = one_more_owed s _ (owed.Aside x.mid x.message) refl refl tt
-taking_passes s x (Some (WireRequest.Share related r)) =
+taking_passes : (s : Share) (x : Sent) (a : Option WireRequest) → IsBuiltIn a → Passes s (after_taking a x s)
+taking_passes s x None built = same_passes s s refl refl
+taking_passes s x (Some WireRequest.Aside) built = one_more_owed s _ (owed.Aside x.mid x.message) refl refl tt
+taking_passes s x (Some (WireRequest.Share related r)) built =
     done_passes s x r (refused_before related x.last_create r) (resolved related x.last_create r) (choice_now s.grants)
+    (resolved_built related x.last_create r built)
 
 took_passes : (s : Share) (found : Option Sent) → Passes s (after_took_of found s)
 took_passes s None = same_passes s s refl refl
-took_passes s (Some x) = taking_passes s x (wire_request x.message)
+took_passes s (Some x) = taking_passes s x (wire_request x.message) (asked_built x.message)
 
 pend_passes : (s : Share) (mid : Mid) (found : Option Sent) → Passes s (after_pend_of found mid s)
 pend_passes s mid None = same_passes s s refl refl
@@ -283,7 +286,7 @@ from_here s (event.Took mid ∷ events) honest none part =
 from_here s (event.Pend mid ∷ events) honest none part =
     onward s (happens s (event.Pend mid)) events (pend_passes s mid (sent_with mid s.sent)) none part (from_here (happens s (event.Pend mid)) events honest.1)
 from_here s (event.Act who r reply ∷ events) honest none part =
-    onward s (happens s (event.Act who r reply)) events (connection_passes s _ (step_leaves (grant_in reply.body) s (record { 0 = who }) r).0) none part
+    onward s (happens s (event.Act who r reply)) events (connection_passes s _ (step_connection (grant_in reply.body) s (record { 0 = who }) r)) none part
     (from_here (happens s (event.Act who r reply)) events honest.1)
 from_here s (event.Break key state ∷ events) honest none part =
     onward s (happens s (event.Break key state)) events (break_passes s key state) none part (from_here (happens s (event.Break key state)) events honest.1)
@@ -328,7 +331,7 @@ ahead_bare s (event.Took mid ∷ events) honest none part =
 ahead_bare s (event.Pend mid ∷ events) honest none part =
     ahead_onward s (happens s (event.Pend mid)) events (pend_passes s mid (sent_with mid s.sent)) none part (ahead_bare (happens s (event.Pend mid)) events honest.1)
 ahead_bare s (event.Act who r reply ∷ events) honest none part =
-    ahead_onward s (happens s (event.Act who r reply)) events (connection_passes s _ (step_leaves (grant_in reply.body) s (record { 0 = who }) r).0) none part
+    ahead_onward s (happens s (event.Act who r reply)) events (connection_passes s _ (step_connection (grant_in reply.body) s (record { 0 = who }) r)) none part
     (ahead_bare (happens s (event.Act who r reply)) events honest.1)
 ahead_bare s (event.Break key state ∷ events) honest none part =
     ahead_onward s (happens s (event.Break key state)) events (break_passes s key state) none part (ahead_bare (happens s (event.Break key state)) events honest.1)

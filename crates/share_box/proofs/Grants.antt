@@ -1,5 +1,5 @@
 -- The share grants neither a lease nor a durable open, and refuses a CREATE only with a status of a refusal.
-use Rattle.std.proofs.Common.{◌≡◌, ◌⊎◌, inl, inr, true, None, Result, Ok, Err, IfOk, refl, sym, subst}
+use Rattle.std.proofs.Common.{◌≡◌, ◌⊎◌, inl, inr, true, false, Some, None, Result, Ok, Err, IfOk, refl, sym, subst}
 use Rattle.smb_base.specs.declared.names.NoMemory.{NoMemory}
 use Rattle.share_spec.specs.declared.request.Who.{Who}
 use Rattle.share_spec.specs.declared.request.Rep.{Rep}
@@ -8,9 +8,11 @@ use Rattle.share_spec.specs.declared.request.Req.TheVariants as req
 use Rattle.share_spec.specs.declared.share.Share.{Share}
 use Rattle.share_spec.specs.Reply.{of_status}
 use Rattle.share_spec.specs.Step.{step_of}
+use Rattle.share_spec.specs.Built.{is_built}
+use Rattle.std.proofs.lemmas.Bool.{false≢true}
 use Rattle.fs_plain.specs.World.{is_creating, came_to}
 use Rattle.share_box.specs.Paid.{GrantsNothing, is_outcome}
-use Rattle.share_box.proofs.Shapes.{IsRefused, IsOpened, IsTold, create_shape, query_shape, close_shape}
+use Rattle.share_box.proofs.Shapes.{IsRefused, IsOpened, IsGranted, IsTold, create_shape, create_shape_with, query_shape, close_shape}
 
 refused_grants : (reply : Rep) → IsRefused reply → GrantsNothing reply.body
 refused_grants reply r = subst (λ (x : Rep). GrantsNothing x.body) (sym r.is) tt
@@ -28,25 +30,27 @@ ended reply (inl r) = refused_grants reply r
 ended reply (inr is) = subst (λ (x : Rep). GrantsNothing x.body) (sym is) tt
 
 -- no request is granted one
-pub step_grants : (s : Share) (who : Who) (r : Req) → GrantsNothing (step_of None s who r).0.body
-step_grants s who (req.Create path access share disposition options attributes lease durable) =
-    created _ (create_shape s who path (record { access = access; share = share; disposition = disposition; options = options; attributes = attributes }))
-step_grants s who (req.Close fid) = ended _ (close_shape s who fid)
-step_grants s who (req.Query fid) = told_grants _ (query_shape s who fid)
-step_grants s who other = tt
+pub step_grants : (s : Share) (who : Who) (r : Req) → is_built r ≡ true → GrantsNothing (step_of None s who r).0.body
+step_grants s who (req.Create path access share disposition options attributes (Some wish) durable) built = absurd (false≢true built)
+step_grants s who (req.Create path access share disposition options attributes None true) built = absurd (false≢true built)
+step_grants s who (req.Create path access share disposition options attributes None false) built =
+    created _ (create_shape s who path (record { access = access; share = share; disposition = disposition; options = options; attributes = attributes; lease = None; durable = false }))
+step_grants s who (req.Close fid) built = ended _ (close_shape s who fid)
+step_grants s who (req.Query fid) built = told_grants _ (query_shape s who fid)
+step_grants s who other built = tt
 
 -- nor does its reply say so
-pub reply_grants : (result : Result Rep NoMemory) (s new : Share) (who : Who) (r : Req) → IfOk result (λ rep. step_of None s who r ≡ (rep, new))
+pub reply_grants : (result : Result Rep NoMemory) (s new : Share) (who : Who) (r : Req) → is_built r ≡ true → IfOk result (λ rep. step_of None s who r ≡ (rep, new))
     → IfOk result (λ rep. GrantsNothing rep.body)
-reply_grants (Ok rep) s new who r h = subst (λ (d : Rep × Share). GrantsNothing d.0.body) h (step_grants s who r)
-reply_grants (Err e) s new who r h = tt
+reply_grants (Ok rep) s new who r built h = subst (λ (d : Rep × Share). GrantsNothing d.0.body) h (step_grants s who r built)
+reply_grants (Err e) s new who r built h = tt
 
-outcome : (reply : Rep) → IsRefused reply ⊎ IsOpened reply → is_outcome (came_to reply reply.body) ≡ true
+outcome : (reply : Rep) → IsRefused reply ⊎ IsGranted (λ g. Unit {0}) reply → is_outcome (came_to reply reply.body) ≡ true
 outcome reply (inl r) = subst (λ (x : Rep). is_outcome (came_to x x.body) ≡ true) (sym r.is) r.refusal
 outcome reply (inr o) = subst (λ (x : Rep). is_outcome (came_to x x.body) ≡ true) (sym o.is) refl
 
 -- a CREATE comes to what it can come to
 pub create_outcome : (s : Share) (who : Who) (r : Req) → is_creating r ≡ true → is_outcome (came_to (step_of None s who r).0 (step_of None s who r).0.body) ≡ true
 create_outcome s who (req.Create path access share disposition options attributes lease durable) creating =
-    outcome _ (create_shape s who path (record { access = access; share = share; disposition = disposition; options = options; attributes = attributes }))
+    outcome _ (create_shape_with (λ g. Unit {0}) None s who path (record { access = access; share = share; disposition = disposition; options = options; attributes = attributes; lease = lease; durable = durable }) (λ node. record {}))
 create_outcome s who other creating = absurd (cc creating)

@@ -1,5 +1,6 @@
 pub mod SameShare
 pub mod Streams
+pub mod Built
 pub mod Choices
 pub mod Mirrors
 pub mod Telling

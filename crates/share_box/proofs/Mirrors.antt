@@ -1,45 +1,33 @@
 -- The share that a story tells of stays the one that a box has, event by event.
 use Rattle.std.proofs.Common.{◌≡◌, ◌∙◌, ℕ, ◌==◌, ◌&&◌, Bool, true, false, not, if◌then◌else◌, List, [], ◌∷◌, ◌++◌, take, drop, map, refl, sym, ap, subst, append_assoc, Result, Ok, Err, Option, Some, None, rules}
-use Rattle.std.specs.Prelude.{is_none, is_some, slice_index, filter}
+use Rattle.std.specs.Prelude.{is_none, filter}
 use Rattle.std.specs.List.{AllByRecursion}
 use Rattle.std.proofs.lemmas.List.{take-append-drop}
 use Rattle.smb_base.specs.declared.names.Mid.{Mid}
-use Rattle.smb_base.specs.declared.names.Fid.{Fid}
-use Rattle.smb_le.specs.Numbers.{number_at}
-use Rattle.smb_head.specs.declared.command.TheConstants.{CREATE, CLOSE, QUERY_INFO}
 use Rattle.smb_head.specs.Stream.{Partial, first_of, fault_of}
 use Rattle.smb_head.proofs.FrameLaws.{first_of-nil}
-use Rattle.smb_head.specs.declared.head.Head.{Head}
-use Rattle.smb_head.specs.declared.head.HeadFault.{HeadFault}
-use Rattle.smb_head.specs.Header.{head_of}
 use Rattle.smb_chain.specs.declared.parts.BadNext.{BadNext}
-use Rattle.smb_field.specs.declared.field.BodyFault.{BodyFault}
-use Rattle.smb_body_b.specs.declared.contexts.ContextSet.{ContextSet}
 use Rattle.share_spec.specs.declared.connection.Grant.{Grant}
 use Rattle.share_spec.specs.declared.connection.LastCreate.{LastCreate}
-use Rattle.share_spec.specs.declared.connection.LastCreate.TheVariants as last
 use Rattle.share_spec.specs.declared.connection.Sent.{Sent}
 use Rattle.share_spec.specs.declared.connection.Owed.{Owed}
 use Rattle.share_spec.specs.declared.connection.Owed.TheVariants as owed
 use Rattle.share_spec.specs.declared.request.Who.{Who}
 use Rattle.share_spec.specs.declared.request.Req.{Req}
-use Rattle.share_spec.specs.declared.request.Req.TheVariants as req
 use Rattle.share_spec.specs.declared.request.Rep.{Rep}
 use Rattle.share_spec.specs.declared.share.Share.{Share}
-use Rattle.share_spec.specs.Reply.{of_status, map_fid}
-use Rattle.share_spec.specs.State.{has}
+use Rattle.share_spec.specs.Reply.{of_status}
 use Rattle.share_spec.specs.Built.{is_built}
 use Rattle.share_spec.specs.Step.{step_of}
 use Rattle.share_spec.specs.Sent.{sent_but, behind_create}
 use Rattle.share_spec.specs.Cut.{ends_with, after_cut, after_join}
 use Rattle.smb_link.specs.declared.event.Event.TheVariants as event
-use Rattle.fs_plain.specs.Wire.{has_body, bytes_at, units_in}
-use Rattle.fs_plain.specs.Requests.{WireRequest, fid_at, asked_lease, share_request, create_with, is_create, create_asked, close_asked, is_query, query_asked, is_aside, by_command, asked_with, wire_request}
-use Rattle.fs_plain.specs.World.{us, grant_in, waiting, messages_of, first_mid, requests_among, requests_in, after_sent, sent_with, is_first_of_frame, followed, is_creating, refusal_before, resolved, refused_before, unless_refused_before, came_to, after_create, choices_left, choice_now, after_done, after_aside, after_taking, after_took_of, act_of, after_got, happens}
+use Rattle.fs_plain.specs.Requests.{WireRequest, wire_request}
+use Rattle.fs_plain.specs.World.{us, grant_in, waiting, messages_of, first_mid, requests_among, requests_in, after_sent, sent_with, is_first_of_frame, is_creating, refusal_before, resolved, refused_before, unless_refused_before, came_to, after_create, choices_left, choice_now, after_done, after_aside, after_taking, after_took_of, act_of, after_got, happens}
 use Rattle.fs_plain.specs.Honest.{MayBeDone, MayBeTakenAs, MayTake, MayAct, MayGet, MayHappen}
 use Rattle.fs_plain.specs.Related.{bare}
 use Rattle.fs_plain.proofs.PlainTree.{bare_of}
-use Rattle.fs_plain.proofs.Steps.{Connection, step_leaves}
+use Rattle.fs_plain.proofs.Steps.{Connection, step_connection, step_leases}
 use Rattle.fs_plain.proofs.Every.{every-filter}
 use Rattle.share_box.specs.declared.state.State.{State}
 use Rattle.share_box.specs.Turns.{answered_as}
@@ -50,6 +38,7 @@ use Rattle.share_box.proofs.SameShare.{step_same, no_needs, bare_allowed, step_g
 use Rattle.share_box.proofs.Grants.{create_outcome}
 use Rattle.share_box.proofs.Streams.{Front, front, may_be_held, one_more_payment}
 use Rattle.share_box.proofs.Choices.{every_both, closed_connection}
+use Rattle.share_box.proofs.Built.{IsBuiltIn, IsAlike, asked_built, resolved_alike, resolved_built}
 
 -- a frame is sent: its messages that ask for something wait
 request_if : (frame : Mid) (message : List ℕ) (none : Bool) (others : List Sent) → is_none (wire_request message) ≡ none → AllByRecursion IsRequest others
@@ -146,100 +135,27 @@ act_mirrors told own waits who r another built old =
     let W : Who = record { 0 = who } in
     let reply : Rep = (step_of None own W r).0 in
     let same : bare_of (act_of who r reply told) ≡ bare_of (step_of None own W r) = step_same (grant_in reply.body) told own W r old.tree built in
-    let leaves = step_leaves (grant_in reply.body) told W r in
-    let leaves' = step_leaves None own W r in (
+    let leaves = step_connection (grant_in reply.body) told W r in
+    let leaves' = step_connection None own W r in (
       record {
         another = another;
         built = built;
         needs = no_needs told W r old.leases;
-        choice = bare_allowed (grant_in reply.body) told W r (step_grants None own W r);
+        choice = bare_allowed (grant_in reply.body) told W r built (step_grants None own W r built);
         answered = ap (λ (d : Rep × Share). d.0) same;
       },
       record {
         tree = ap (λ (d : Rep × Share). d.1) same;
-        leases = leaves.1 old.leases;
-        own_leases = leaves'.1 old.own_leases;
-        connected = ap (λ (c : Connection). c.connected) leaves.0 ∙ old.connected ∙ sym (ap (λ (c : Connection). c.connected) leaves'.0);
-        sent = ap (λ (c : Connection). c.sent) leaves.0 ∙ old.sent ∙ sym (ap (λ (c : Connection). c.sent) leaves'.0);
-        requests = subst (λ (c : Connection). AllByRecursion IsRequest c.sent) (sym leaves'.0) old.requests;
-        begun = subst (λ (c : Connection). first_of c.held ≡ Partial) (sym leaves.0) old.begun;
-        paid = subst (λ (c : Connection). ArePayments c.owed (c.held ++ waits)) (sym leaves.0) old.paid;
-        choices = subst (λ (c : Connection). AreBare c.grants) (sym leaves.0) old.choices;
+        leases = step_leases (grant_in reply.body) told W r built old.leases;
+        own_leases = step_leases None own W r built old.own_leases;
+        connected = ap (λ (c : Connection). c.connected) leaves ∙ old.connected ∙ sym (ap (λ (c : Connection). c.connected) leaves');
+        sent = ap (λ (c : Connection). c.sent) leaves ∙ old.sent ∙ sym (ap (λ (c : Connection). c.sent) leaves');
+        requests = subst (λ (c : Connection). AllByRecursion IsRequest c.sent) (sym leaves') old.requests;
+        begun = subst (λ (c : Connection). first_of c.held ≡ Partial) (sym leaves) old.begun;
+        paid = subst (λ (c : Connection). ArePayments c.owed (c.held ++ waits)) (sym leaves) old.paid;
+        choices = subst (λ (c : Connection). AreBare c.grants) (sym leaves) old.choices;
       },
     )
-
--- a message asks for what the share takes
-abbrev IsBuiltIn : Option WireRequest → Type 0
-IsBuiltIn None = Unit {0}
-IsBuiltIn (Some WireRequest.Aside) = Unit {0}
-IsBuiltIn (Some (WireRequest.Share related r)) = is_built r ≡ true
-
-built_if : (t : Bool) (a b : Option WireRequest) → IsBuiltIn a → IsBuiltIn b → IsBuiltIn (if t then a else b)
-built_if true a b is is' = is
-built_if false a b is is' = is'
-
-built_given : (related : Bool) (r : Req) (t : Bool) → is_built r ≡ t → IsBuiltIn (if t then Some (WireRequest.Share related r) else None)
-built_given related r true is = is
-built_given related r false is = tt
-
-built_request : (related : Bool) (r : Req) → IsBuiltIn (share_request related r)
-built_request related r = built_given related r (is_built r) refl
-
--- the CREATE that a message with these contexts is
-abbrev create_in : List ℕ → ContextSet → Req
-create_in message set = req.Create (units_in (bytes_at (number_at 2 108 message) (number_at 2 110 message) message)) (number_at 4 88 message)
-    (number_at 4 96 message) (number_at 4 100 message) (number_at 4 104 message) (number_at 4 92 message) (asked_lease (slice_index message 67) set.lease) set.durable
-
-built_create : (related : Bool) (message : List ℕ) (contexts : Result ContextSet BodyFault) → IsBuiltIn (create_with related message contexts)
-built_create related message (Err fault) = tt
-built_create related message (Ok set) = built_if (is_some set.reclaim) None (share_request related (create_in message set)) tt (built_request related (create_in message set))
-
-built_command : (command : ℕ) (related : Bool) (message : List ℕ) → IsBuiltIn (by_command command related message)
-built_command command related message =
-    built_if (command == CREATE) (create_asked related message) _ (built_if (is_create message) _ None (built_create related message _) tt)
-    (built_if (command == CLOSE) (close_asked related message) _ (built_if (has_body 24 message) (share_request related (req.Close (fid_at 72 message))) None (built_request related (req.Close (fid_at 72 message))) tt)
-    (built_if (command == QUERY_INFO) (query_asked related message) _ (built_if (is_query message) (share_request related (req.Query (fid_at 88 message))) None (built_request related (req.Query (fid_at 88 message))) tt)
-    (built_if (is_aside command message) (Some WireRequest.Aside) None tt tt)))
-
-built_with : (head : Result Head HeadFault) (message : List ℕ) → IsBuiltIn (asked_with head message)
-built_with (Err fault) message = tt
-built_with (Ok head) message = built_if (has head.flags.0 1) None _ tt (built_command head.command (has head.flags.0 4) message)
-
-asked_built : (message : List ℕ) → IsBuiltIn (wire_request message)
-unfolding wire_request
-asked_built message = built_with (head_of message) message
-
--- a related request stays what it is, but for its file id
-abbrev IsAlike : Req → Req → Type 0
-IsAlike r' r = (is_creating r' ≡ is_creating r) × (is_built r' ≡ is_built r)
-
-with_fid_alike : (fid : Fid) (r : Req) → IsAlike (map_fid (λ own. fid) r) r
-with_fid_alike fid (req.Create path access share disposition options attributes lease durable) = (refl, refl)
-with_fid_alike fid (req.Close a) = (refl, refl)
-with_fid_alike fid (req.Flush a) = (refl, refl)
-with_fid_alike fid (req.Query a) = (refl, refl)
-with_fid_alike fid (req.Room a) = (refl, refl)
-with_fid_alike fid (req.Read a b c) = (refl, refl)
-with_fid_alike fid (req.Write a b c) = (refl, refl)
-with_fid_alike fid (req.Lock a b c d) = (refl, refl)
-with_fid_alike fid (req.Unlock a b c) = (refl, refl)
-with_fid_alike fid (req.List a b c) = (refl, refl)
-with_fid_alike fid (req.SetBasic a b) = (refl, refl)
-with_fid_alike fid (req.SetEnd a b) = (refl, refl)
-with_fid_alike fid (req.SetPending a b) = (refl, refl)
-with_fid_alike fid (req.Rename a b c) = (refl, refl)
-with_fid_alike fid (req.LinkTo a b c) = (refl, refl)
-with_fid_alike fid (req.Ack a b) = (refl, refl)
-with_fid_alike fid (req.Reclaim a b) = (refl, refl)
-
-followed_alike : (before : LastCreate) (r : Req) → IsAlike (followed before r) r
-followed_alike last.Nothing r = (refl, refl)
-followed_alike (last.Opened fid) r = with_fid_alike fid r
-followed_alike (last.Refused status) r = (refl, refl)
-
-resolved_alike : (related : Bool) (before : LastCreate) (r : Req) → IsAlike (resolved related before r) r
-resolved_alike true before r = followed_alike before r
-resolved_alike false before r = (refl, refl)
 
 -- a CREATE is not refused before
 not_creating : (related creating : Bool) (refusal : Option ℕ) (status : ℕ) → (if related && not creating then refusal else None) ≡ Some status → creating ≡ false
@@ -364,35 +280,39 @@ step_takes told own waits one others r r' old is creating built =
     let done' : Rep × Share = step_of None (without one others own) us r' in
     let same : bare_of done ≡ bare_of done' = step_same (choice_now told.grants) told (without one others own) us r' old.tree built in
     let reply : done.0 ≡ done'.0 = ap (λ (d : Rep × Share). d.0) same in
-    let leaves = step_leaves (choice_now told.grants) told us r' in
-    let leaves' = step_leaves None (without one others own) us r' in
+    let leaves = step_connection (choice_now told.grants) told us r' in
+    let leaves' = step_connection None (without one others own) us r' in
     let sent : sent_but one.mid done.1.sent ≡ done'.1.sent =
-    ap (λ (c : Connection). sent_but one.mid c.sent) leaves.0 ∙ but_first one others told.sent (old.sent ∙ is) ∙ sym (ap (λ (c : Connection). c.sent) leaves'.0) in
+    ap (λ (c : Connection). sent_but one.mid c.sent) leaves ∙ but_first one others told.sent (old.sent ∙ is) ∙ sym (ap (λ (c : Connection). c.sent) leaves') in
     record {
       tree = ap (λ (d : Rep × Share). d.1) same;
-      leases = leaves.1 old.leases;
-      own_leases = leaves'.1 old.own_leases;
-      connected = ap (λ (c : Connection). c.connected) leaves.0 ∙ old.connected ∙ sym (ap (λ (c : Connection). c.connected) leaves'.0);
+      leases = step_leases (choice_now told.grants) told us r' built old.leases;
+      own_leases = step_leases None (without one others own) us r' built old.own_leases;
+      connected = ap (λ (c : Connection). c.connected) leaves ∙ old.connected ∙ sym (ap (λ (c : Connection). c.connected) leaves');
       sent = ap (λ (t : Bool). if t then map (behind_create one.frame (came_to done.0 done.0.body)) (sent_but one.mid done.1.sent) else sent_but one.mid done.1.sent) (sym creating)
           ∙ ap (λ (l : List Sent). after_create r' one.frame done.0 l) sent
           ∙ ap (λ (d : Rep). after_create r' one.frame d done'.1.sent) reply;
       requests = created_requests (is_creating r') one.frame done'.0 done'.1.sent (create_outcome (without one others own) us r')
-          (subst (λ (c : Connection). AllByRecursion IsRequest c.sent) (sym leaves'.0) (left_requests one others own.sent is old.requests));
-      held = ap (λ (c : Connection). c.held) leaves.0;
-      owed = ap (λ (c : Connection). c.owed ++ owed.Reply one.mid one.message done.0 ∷ []) leaves.0
+          (subst (λ (c : Connection). AllByRecursion IsRequest c.sent) (sym leaves') (left_requests one others own.sent is old.requests));
+      held = ap (λ (c : Connection). c.held) leaves;
+      owed = ap (λ (c : Connection). c.owed ++ owed.Reply one.mid one.message done.0 ∷ []) leaves
           ∙ ap (λ (d : Rep). told.owed ++ owed.Reply one.mid one.message d ∷ []) reply;
-      grants = ap (λ (c : Connection). choices_left c.grants) leaves.0;
+      grants = ap (λ (c : Connection). choices_left c.grants) leaves;
     }
 
 -- a request to the share is taken, unless the CREATE before it refuses it
-may_share : (told own : Share) (waits : List ℕ) (r : Req) (refusal : Option ℕ) → Mirrors told own waits → MayBeDone refusal (choice_now told.grants) told r
-may_share told own waits r None old = (no_needs told us r old.leases, bare_allowed (choice_now told.grants) told us r (now_bare told.grants old.choices))
-may_share told own waits r (Some status) old = tt
+may_share : (told own : Share) (waits : List ℕ) (r : Req) (refusal : Option ℕ) → is_built r ≡ true → Mirrors told own waits
+    → MayBeDone refusal (choice_now told.grants) told r
+may_share told own waits r None built old =
+    (no_needs told us r old.leases, bare_allowed (choice_now told.grants) told us r built (now_bare told.grants old.choices))
+may_share told own waits r (Some status) built old = tt
 
-may_be_taken : (told own : Share) (waits : List ℕ) (before : LastCreate) (a : Option WireRequest) → Mirrors told own waits → is_none a ≡ false → MayBeTakenAs a before told
-may_be_taken told own waits before None old asks = absurd (cc asks)
-may_be_taken told own waits before (Some WireRequest.Aside) old asks = tt
-may_be_taken told own waits before (Some (WireRequest.Share related r)) old asks = may_share told own waits (resolved related before r) (refused_before related before r) old
+may_be_taken : (told own : Share) (waits : List ℕ) (before : LastCreate) (a : Option WireRequest) → Mirrors told own waits → is_none a ≡ false → IsBuiltIn a
+    → MayBeTakenAs a before told
+may_be_taken told own waits before None old asks built = absurd (cc asks)
+may_be_taken told own waits before (Some WireRequest.Aside) old asks built = tt
+may_be_taken told own waits before (Some (WireRequest.Share related r)) old asks built =
+    may_share told own waits (resolved related before r) (refused_before related before r) (resolved_built related before r built) old
 
 -- the oldest request that waits may be taken
 pub may_take : (told own : Share) (waits : List ℕ) (one : Sent) (others : List Sent) → Mirrors told own waits → own.sent ≡ one ∷ others
@@ -400,7 +320,7 @@ pub may_take : (told own : Share) (waits : List ℕ) (one : Sent) (others : List
 may_take told own waits one others old is =
     let request : IsRequest one = (subst (AllByRecursion IsRequest) is old.requests).0 in
     subst (λ (found : Option Sent). MayTake found told) (sym (found_first one others told.sent (old.sent ∙ is)))
-    (is_first one others told.sent (old.sent ∙ is), may_be_taken told own waits one.last_create (wire_request one.message) old request.asks)
+    (is_first one others told.sent (old.sent ∙ is), may_be_taken told own waits one.last_create (wire_request one.message) old request.asks (asked_built one.message))
 
 -- what comes of it
 sharing : (told own : Share) (b : State) (one : Sent) (others : List Sent) (r r' : Req) (refusal : Option ℕ) → Mirrors told own b.waiting → own.sent ≡ one ∷ others

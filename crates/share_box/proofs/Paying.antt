@@ -1,6 +1,7 @@
 -- A written reply pays what is owed.
 use Rattle.std.proofs.Common.{◌≡◌, ◌∙◌, ◌⊎◌, inl, inr, ℕ, Bool, true, false, List, [], ◌++◌, Option, Some, None, Result, Ok, Err, OnOk, refl, sym, ap, subst, arith, length-append}
 use Rattle.std.specs.Prelude.{◌==◌, not, ◌&&◌, ◌||◌, if◌then◌else◌}
+use Rattle.smb_base.specs.declared.names.Key.{Key}
 use Rattle.smb_le.specs.Numbers.{number_at}
 use Rattle.smb_head.specs.declared.command.TheConstants.{NEGOTIATE, SESSION_SETUP, TREE_CONNECT, CREATE, CLOSE, QUERY_INFO}
 use Rattle.smb_head.specs.declared.head.Head.{Head}
@@ -13,10 +14,13 @@ use Rattle.share_spec.specs.declared.connection.Owed.TheVariants as owed
 use Rattle.share_spec.specs.declared.connection.Sent.{Sent}
 use Rattle.share_spec.specs.declared.request.Rep.{Rep}
 use Rattle.share_spec.specs.declared.request.Req.{Req}
+use Rattle.share_spec.specs.declared.request.Req.TheVariants as req
 use Rattle.share_spec.specs.declared.share.Share.{Share}
 use Rattle.share_spec.specs.Reply.{of_status, opened_reply, fid_of}
 use Rattle.share_spec.specs.Query.{info_reply}
 use Rattle.share_spec.specs.Step.{step_of}
+use Rattle.share_spec.specs.Built.{is_built}
+use Rattle.std.proofs.lemmas.Bool.{false≢true}
 use Rattle.fs_plain.specs.Wire.{has_body, lies}
 use Rattle.fs_plain.specs.Replies.{is_error, body_in, reply_of, reply_by_status, is_aside_by_status, Pays}
 use Rattle.fs_plain.specs.World.{us}
@@ -32,6 +36,7 @@ use Rattle.share_box.specs.Answers.{is_first_message, token_in, said_session, sa
 use Rattle.share_box.specs.Serving.{plan_of, said_under, done_by}
 use Rattle.share_box.specs.Paid.{IsPayment, owed_for, is_refusal, IsProper, IsReply, IsReplyTo, PaysAs}
 use Rattle.share_box.proofs.Reading.{stands, error_is, closed_is, opened_is, info_is, negotiated_is, session_is, tree_is, empty_is}
+use Rattle.share_box.proofs.Built.{plan_built}
 use Rattle.share_box.proofs.Shapes.{IsRefused, IsOpened, IsTold, create_shape, query_shape, close_shape}
 use Rattle.share_box.proofs.Asking.{IsCreate, IsClose, IsQuery, HasHead, HasRequest, plan_does_own, plan_has_head, plan_refuses_so}
 use Rattle.share_box.proofs.Heard.{heard, heard_aside}
@@ -101,19 +106,31 @@ ended : (command : ℕ) (reply : Rep) → command ≡ CLOSE → IsRefused reply 
 ended command reply by (inl r) = subst (Says command) (sym r.is) (refused_says command r.status r.refusal)
 ended command reply by (inr is) = subst (λ (c : ℕ). Says c reply) (sym by) (subst (Says CLOSE) (sym is) closed_says)
 
+-- a CREATE that the share takes
+create_says : (command : ℕ) (s : Share) (path : List ℕ) (access share disposition options attributes : ℕ) (lease : Option (Key × ℕ)) (durable : Bool) → command ≡ CREATE
+    → is_built (req.Create path access share disposition options attributes lease durable) ≡ true
+    → Says command (step_of None s us (req.Create path access share disposition options attributes lease durable)).0
+create_says command s path access share disposition options attributes (Some wish) durable by built = absurd (false≢true built)
+create_says command s path access share disposition options attributes None true by built = absurd (false≢true built)
+create_says command s path access share disposition options attributes None false by built = created command _ by (create_shape s us path (record {
+  access = access;
+  share = share;
+  disposition = disposition;
+  options = options;
+  attributes = attributes;
+  lease = None;
+  durable = false;
+}))
+
 -- what the share replies to a request of a command
-steps : (command : ℕ) (s : Share) (r : Req) → IsCreate command r ⊎ (IsClose command r ⊎ IsQuery command r) → Says command (step_of None s us r).0
-steps command s r (inl c) =
-    subst (λ (q : Req). Says command (step_of None s us q).0) (sym c.is) (created command _ c.by (create_shape s us c.path (record {
-      access = c.access;
-      share = c.share;
-      disposition = c.disposition;
-      options = c.options;
-      attributes = c.attributes;
-    })))
-steps command s r (inr (inl c)) =
+steps : (command : ℕ) (s : Share) (r : Req) → is_built r ≡ true → IsCreate command r ⊎ (IsClose command r ⊎ IsQuery command r) → Says command (step_of None s us r).0
+steps command s r built (inl c) =
+    subst (λ (q : Req). Says command (step_of None s us q).0) (sym c.is)
+    (create_says command s c.path c.access c.share c.disposition c.options c.attributes c.lease c.durable c.by
+    (subst (λ (q : Req). is_built q ≡ true) c.is built))
+steps command s r built (inr (inl c)) =
     subst (λ (q : Req). Says command (step_of None s us q).0) (sym c.is) (ended command _ c.by (close_shape s us c.fid))
-steps command s r (inr (inr c)) =
+steps command s r built (inr (inr c)) =
     subst (λ (q : Req). Says command (step_of None s us q).0) (sym c.is) (query_says command _ c.by (query_shape s us c.fid))
 
 -- what is said to a request of the connection itself, by its command
@@ -180,7 +197,7 @@ paid (plan.Do q) one s credits bytes planned pending reply =
     let r : IsReply head what bytes = subst (λ (x : Result Head HeadFault). IsReplyTo x credits what bytes) there.is reply in
     pays_by (owed.Reply one.mid one.message (step_of None s us q).0) head what bytes r
     (heard one.mid one.message (message head what) there.head credits what there.is pending.own r.read
-    ∙ steps there.head.command s q there.fits r.again head)
+    ∙ steps there.head.command s q (plan_built one q planned) there.fits r.again head)
 
 -- so does the reply that a box writes
 pub pays_as : (one : Sent) (b : State) (p : Plan) (what : Said) (bytes : List ℕ) → plan_of one ≡ Some p → (done_by p one b.share).0 ≡ what

@@ -1,6 +1,6 @@
 -- Requests that wait stay proper: each under the id in its message, and with what a CREATE before it can come to.
 use Rattle.std.proofs.Common.{◌≡◌, ◌∙◌, ℕ, Bool, true, false, List, [], ◌∷◌, ◌++◌, Option, Some, None, Result, Ok, Err, OnOk, map, refl, sym, ap, subst}
-use Rattle.std.specs.Prelude.{◌==◌, not, if◌then◌else◌, filter, is_none}
+use Rattle.std.specs.Prelude.{◌+◌, ◌==◌, not, if◌then◌else◌, filter, is_none}
 use Rattle.std.specs.List.{list_all}
 use Rattle.smb_base.specs.declared.names.Mid.{Mid}
 use Rattle.smb_chain.specs.declared.parts.BadNext.{BadNext}
@@ -18,6 +18,7 @@ use Rattle.share_spec.specs.declared.share.Share.{Share}
 use Rattle.share_spec.specs.Names.{is_name, components}
 use Rattle.share_spec.specs.State.{emptied}
 use Rattle.share_spec.specs.Place.{place_of}
+use Rattle.share_spec.specs.Leases.{granting_of}
 use Rattle.share_spec.specs.Reply.{unless, refused}
 use Rattle.share_spec.specs.Sent.{sent_but, behind_create}
 use Rattle.share_spec.specs.Create.{is_disposition, overwrites, made, opened, create_at, create_of}
@@ -89,17 +90,17 @@ unless_same : (reason : Option ℕ) (s : Share) (done : Rep × Share) → done.1
 unless_same None s done same = same
 unless_same (Some status) s done same = refl
 
-at_place : (s : Share) (who : Who) (w : Wanted) (p : Place) → (create_at s who w p).1.sent ≡ s.sent
+at_place : (s : Share) (who : Who) (w : Wanted) (p : Place) → (create_at None s who w p).1.sent ≡ s.sent
 at_place s who w NoPath = refl
-at_place s who w (Missing d name) = unless_same _ s (made s who w d name) refl
+at_place s who w (Missing d name) = unless_same _ s (made s who w (granting_of None s who w (s.nodes_made + 1)) d name) refl
 at_place s who w (There f) =
-    unless_same _ s (opened s who w f) (either_share (overwrites w.disposition) (record s { nodes = map (emptied f.node) s.nodes }) s s.sent refl refl)
+    unless_same _ s (opened s who w (granting_of None s who w f.node) f) (either_share (overwrites w.disposition) (record s { nodes = map (emptied f.node) s.nodes }) s s.sent refl refl)
 
-create_same : (s : Share) (who : Who) (path : List ℕ) (w : Wanted) → (create_of s who path w).1.sent ≡ s.sent
+create_same : (s : Share) (who : Who) (path : List ℕ) (w : Wanted) → (create_of None s who path w).1.sent ≡ s.sent
 create_same s who path w =
     either (not (is_disposition w.disposition)) (refused 0xC000000D s)
-    (if not (list_all is_name (components path)) then refused 0xC0000033 s else create_at s who w (place_of s (components path))) s.sent refl
-    (either (not (list_all is_name (components path))) (refused 0xC0000033 s) (create_at s who w (place_of s (components path))) s.sent refl
+    (if not (list_all is_name (components path)) then refused 0xC0000033 s else create_at None s who w (place_of s (components path))) s.sent refl
+    (either (not (list_all is_name (components path))) (refused 0xC0000033 s) (create_at None s who w (place_of s (components path))) s.sent refl
     (at_place s who w (place_of s (components path))))
 
 close_same : (o : Option Open) (s : Share) → (close_open o s).1.sent ≡ s.sent
@@ -112,7 +113,7 @@ query_same (Some o) s = refl
 
 step_sent : (s : Share) (who : Who) (r : Req) → (step_of None s who r).1.sent ≡ s.sent
 step_sent s who (req.Create path access share disposition options attributes lease durable) =
-    create_same s who path (record { access = access; share = share; disposition = disposition; options = options; attributes = attributes })
+    create_same s who path (record { access = access; share = share; disposition = disposition; options = options; attributes = attributes; lease = lease; durable = durable })
 step_sent s who (req.Close fid) = close_same (open_of s.opens who fid) s
 step_sent s who (req.Query fid) = query_same (open_of s.opens who fid) s
 step_sent s who other = refl

@@ -2,6 +2,7 @@
 use Rattle.std.proofs.Common.{◌≡◌, ◌∙◌, ℕ, true, false, List, [], ◌∷◌, refl, sym, ap, Option, Some, None, Bool, not, if◌then◌else◌}
 use Rattle.std.specs.Prelude.{map, filter}
 use Rattle.std.specs.List.{list_all}
+use Rattle.std.proofs.lemmas.Bool.{false≢true}
 use Rattle.smb_base.specs.declared.names.Key.{Key}
 use Rattle.share_spec.specs.declared.connection.Grant.{Grant}
 use Rattle.share_spec.specs.declared.lease.Lease.{Lease}
@@ -22,7 +23,8 @@ use Rattle.share_spec.specs.Close.{open_of, close_open, closed, kept_leases}
 use Rattle.share_spec.specs.Query.{query_open}
 use Rattle.share_spec.specs.Step.{step_of}
 use Rattle.share_spec.specs.Built.{is_built}
-use Rattle.share_spec.specs.PlainShare.{plain_request}
+use Rattle.share_spec.specs.Leases.{no_granting}
+use Rattle.share_spec.specs.PlainShare.{plain_wanted, plain_request}
 use Rattle.share_spec.specs.Breaks.{is_refused_early, needs_in, needs_at, needs_of}
 use Rattle.share_spec.specs.Grants.{is_allowed}
 use Rattle.share_spec.specs.Cut.{all_closed, ends_with, disconnected, after_cut}
@@ -44,10 +46,10 @@ no_needs_in : (early : Bool) (needs : List (Key × ℕ)) → needs ≡ [] → (i
 no_needs_in true needs none = refl
 no_needs_in false needs none = none
 
-no_needs_at : (s : Share) (w : Wanted) (at : Place) → s.leases ≡ [] → needs_at s w at ≡ []
-no_needs_at s w NoPath none = refl
-no_needs_at s w (Missing d name) none = refl
-no_needs_at s w (There f) none = no_needs_in (is_refused_early s w f) (needs_in s w f.node s.leases) (ap (needs_in s w f.node) none)
+no_needs_at : (s : Share) (who : Who) (w : Wanted) (at : Place) → s.leases ≡ [] → needs_at s who w at ≡ []
+no_needs_at s who w NoPath none = refl
+no_needs_at s who w (Missing d name) none = refl
+no_needs_at s who w (There f) none = no_needs_in (is_refused_early s who w f) (needs_in s who w f.node s.leases) (ap (needs_in s who w f.node) none)
 
 no_needs_if : (named : Bool) (needs : List (Key × ℕ)) → needs ≡ [] → (if named then needs else []) ≡ []
 no_needs_if true needs none = none
@@ -55,7 +57,7 @@ no_needs_if false needs none = refl
 
 pub no_needs : (s : Share) (who : Who) (r : Req) → s.leases ≡ [] → needs_of s who r ≡ []
 no_needs s who (req.Create path access share disposition options attributes lease durable) none =
-    no_needs_if _ _ (no_needs_at s (record { access = access; share = share; disposition = disposition; options = options; attributes = attributes }) (place_of s (components path)) none)
+    no_needs_if _ _ (no_needs_at s who (record { access = access; share = share; disposition = disposition; options = options; attributes = attributes; lease = lease; durable = durable }) (place_of s (components path)) none)
 no_needs s who (req.Close fid) none = refl
 no_needs s who (req.Flush fid) none = refl
 no_needs s who (req.Query fid) none = refl
@@ -73,28 +75,34 @@ no_needs s who (req.LinkTo fid replace path) none = refl
 no_needs s who (req.Ack key state) none = refl
 no_needs s who (req.Reclaim fid key) none = refl
 
--- what is bare is allowed
-pub bare_allowed : (choice : Option Grant) (s : Share) (who : Who) (r : Req) → IsBare choice → is_allowed choice s who r ≡ true
-bare_allowed None s who r is = refl
-bare_allowed (Some grant) s who r is = is
+-- what is bare is allowed where nothing is wanted
+pub bare_allowed : (choice : Option Grant) (s : Share) (who : Who) (r : Req) → is_built r ≡ true → IsBare choice → is_allowed choice s who r ≡ true
+bare_allowed None s who r built is = refl
+bare_allowed (Some grant) s who (req.Create path access share disposition options attributes (Some wish) durable) built is = absurd (false≢true built)
+bare_allowed (Some grant) s who (req.Create path access share disposition options attributes None durable) built is = is
+bare_allowed (Some grant) s who other built is = is
 
 -- a reply grants nothing
 unless_grants : (refusal : Option ℕ) (s : Share) (done : Rep × Share) → IsBare (grant_in done.0.body) → IsBare (grant_in (unless refusal s done).0.body)
 unless_grants None s done is = is
 unless_grants (Some status) s done is = refl
 
-create_at_grants : (s : Share) (who : Who) (w : Wanted) (at : Place) → IsBare (grant_in (create_at s who w at).0.body)
-create_at_grants s who w NoPath = refl
-create_at_grants s who w (Missing d name) = unless_grants (refusal_of_missing s w d) s (made s who w d name) refl
-create_at_grants s who w (There f) = unless_grants (refusal_of_there s w f) s (opened s who w f) refl
+create_at_grants : (choice : Option Grant) (s : Share) (who : Who) (w : Wanted) (at : Place)
+    → IsBare (grant_in (create_at choice s who (plain_wanted w) at).0.body)
+create_at_grants choice s who w NoPath = refl
+create_at_grants choice s who w (Missing d name) =
+    unless_grants (refusal_of_missing s who (plain_wanted w) d) s (made s who (plain_wanted w) no_granting d name) refl
+create_at_grants choice s who w (There f) =
+    unless_grants (refusal_of_there s who (plain_wanted w) f) s (opened s who (plain_wanted w) no_granting f) refl
 
-create_grants : (s : Share) (who : Who) (path : List ℕ) (w : Wanted) → IsBare (grant_in (create_of s who path w).0.body)
-create_grants s who path w = by (is_disposition w.disposition) (list_all is_name (components path))
+create_grants : (choice : Option Grant) (s : Share) (who : Who) (path : List ℕ) (w : Wanted)
+    → IsBare (grant_in (create_of choice s who path (plain_wanted w)).0.body)
+create_grants choice s who path w = by (is_disposition w.disposition) (list_all is_name (components path))
   where
-    by : (t u : Bool) → IsBare (grant_in (if not t then refused 0xC000000D s else if not u then refused 0xC0000033 s else create_at s who w (place_of s (components path))).0.body)
+    by : (t u : Bool) → IsBare (grant_in (if not t then refused 0xC000000D s else if not u then refused 0xC0000033 s else create_at choice s who (plain_wanted w) (place_of s (components path))).0.body)
     by false u = refl
     by true false = refl
-    by true true = create_at_grants s who w (place_of s (components path))
+    by true true = create_at_grants choice s who w (place_of s (components path))
 
 close_grants : (o : Option Open) (s : Share) → IsBare (grant_in (close_open o s).0.body)
 close_grants None s = refl
@@ -104,25 +112,27 @@ query_grants : (o : Option Open) (s : Share) → IsBare (grant_in (query_open o 
 query_grants None s = refl
 query_grants (Some o) s = refl
 
-pub step_grants : (choice : Option Grant) (s : Share) (who : Who) (r : Req) → IsBare (grant_in (step_of choice s who r).0.body)
-step_grants choice s who (req.Create path access share disposition options attributes lease durable) =
-    create_grants s who path (record { access = access; share = share; disposition = disposition; options = options; attributes = attributes })
-step_grants choice s who (req.Close fid) = close_grants (open_of s.opens who fid) s
-step_grants choice s who (req.Query fid) = query_grants (open_of s.opens who fid) s
-step_grants choice s who (req.Flush fid) = refl
-step_grants choice s who (req.Room fid) = refl
-step_grants choice s who (req.Read fid offset length) = refl
-step_grants choice s who (req.Write fid offset bytes) = refl
-step_grants choice s who (req.Lock fid offset length exclusive) = refl
-step_grants choice s who (req.Unlock fid offset length) = refl
-step_grants choice s who (req.List fid restart length) = refl
-step_grants choice s who (req.SetBasic fid attributes) = refl
-step_grants choice s who (req.SetEnd fid size) = refl
-step_grants choice s who (req.SetPending fid on) = refl
-step_grants choice s who (req.Rename fid replace path) = refl
-step_grants choice s who (req.LinkTo fid replace path) = refl
-step_grants choice s who (req.Ack key state) = refl
-step_grants choice s who (req.Reclaim fid key) = refl
+pub step_grants : (choice : Option Grant) (s : Share) (who : Who) (r : Req) → is_built r ≡ true → IsBare (grant_in (step_of choice s who r).0.body)
+step_grants choice s who (req.Create path access share disposition options attributes (Some wish) durable) built = absurd (false≢true built)
+step_grants choice s who (req.Create path access share disposition options attributes None true) built = absurd (false≢true built)
+step_grants choice s who (req.Create path access share disposition options attributes None false) built =
+    create_grants choice s who path (record { access = access; share = share; disposition = disposition; options = options; attributes = attributes; lease = None; durable = false })
+step_grants choice s who (req.Close fid) built = close_grants (open_of s.opens who fid) s
+step_grants choice s who (req.Query fid) built = query_grants (open_of s.opens who fid) s
+step_grants choice s who (req.Flush fid) built = refl
+step_grants choice s who (req.Room fid) built = refl
+step_grants choice s who (req.Read fid offset length) built = refl
+step_grants choice s who (req.Write fid offset bytes) built = refl
+step_grants choice s who (req.Lock fid offset length exclusive) built = refl
+step_grants choice s who (req.Unlock fid offset length) built = refl
+step_grants choice s who (req.List fid restart length) built = refl
+step_grants choice s who (req.SetBasic fid attributes) built = refl
+step_grants choice s who (req.SetEnd fid size) built = refl
+step_grants choice s who (req.SetPending fid on) built = refl
+step_grants choice s who (req.Rename fid replace path) built = refl
+step_grants choice s who (req.LinkTo fid replace path) built = refl
+step_grants choice s who (req.Ack key state) built = refl
+step_grants choice s who (req.Reclaim fid key) built = refl
 
 -- opens end the same beside any connection
 all_closed_bare : (opens : List Open) (s : Share) → bare (all_closed opens s) ≡ all_closed opens (bare s)

@@ -1,6 +1,6 @@
 -- A request leaves the connection as it stands.
 use Rattle.std.proofs.Common.{◌≡◌, ◌∙◌, ℕ, Bool, true, false, List, Option, Some, None, Result, Ok, Err, IfOk, OnErr, map, refl, sym, ap}
-use Rattle.std.specs.Prelude.{not, if◌then◌else◌}
+use Rattle.std.specs.Prelude.{◌+◌, not, if◌then◌else◌}
 use Rattle.smb_base.specs.declared.names.NoMemory.{NoMemory}
 use Rattle.share_spec.specs.declared.opens.Open.{Open}
 use Rattle.share_spec.specs.declared.place.Place.{Place}
@@ -15,6 +15,7 @@ use Rattle.std.specs.List.{list_all}
 use Rattle.share_spec.specs.Reply.{unless, refused}
 use Rattle.share_spec.specs.Names.{is_name, components}
 use Rattle.share_spec.specs.Place.{place_of}
+use Rattle.share_spec.specs.Leases.{granting_of}
 use Rattle.share_spec.specs.Create.{is_disposition, overwrites, made, opened, create_at, create_of}
 use Rattle.share_spec.specs.State.{emptied}
 use Rattle.share_spec.specs.Close.{open_of, close_open}
@@ -33,19 +34,19 @@ by_refusal : (r : Option ℕ) (s : Share) (done : Rep × Share) → done.1.conne
 by_refusal None s done same = same
 by_refusal (Some status) s done same = refl
 
-of_place : (s : Share) (who : Who) (w : Wanted) (p : Place) → (create_at s who w p).1.connected ≡ s.connected
+of_place : (s : Share) (who : Who) (w : Wanted) (p : Place) → (create_at None s who w p).1.connected ≡ s.connected
 of_place s who w NoPath = refl
-of_place s who w (Missing d name) = by_refusal _ s (made s who w d name) refl
-of_place s who w (There f) = by_refusal _ s (opened s who w f) (by_share (overwrites w.disposition) (record s { nodes = map (emptied f.node) s.nodes }) s s.connected refl refl)
+of_place s who w (Missing d name) = by_refusal _ s (made s who w (granting_of None s who w (s.nodes_made + 1)) d name) refl
+of_place s who w (There f) = by_refusal _ s (opened s who w (granting_of None s who w f.node) f) (by_share (overwrites w.disposition) (record s { nodes = map (emptied f.node) s.nodes }) s s.connected refl refl)
 
 abbrev named_or : Share → Who → List ℕ → Wanted → Rep × Share
 named_or s who path w =
-    if not (list_all is_name (components path)) then refused 0xC0000033 s else create_at s who w (place_of s (components path))
+    if not (list_all is_name (components path)) then refused 0xC0000033 s else create_at None s who w (place_of s (components path))
 
-of_create : (s : Share) (who : Who) (path : List ℕ) (w : Wanted) → (create_of s who path w).1.connected ≡ s.connected
+of_create : (s : Share) (who : Who) (path : List ℕ) (w : Wanted) → (create_of None s who path w).1.connected ≡ s.connected
 of_create s who path w =
     by_test (not (is_disposition w.disposition)) (refused 0xC000000D s) (named_or s who path w) s.connected refl
-    (by_test (not (list_all is_name (components path))) (refused 0xC0000033 s) (create_at s who w (place_of s (components path))) s.connected
+    (by_test (not (list_all is_name (components path))) (refused 0xC0000033 s) (create_at None s who w (place_of s (components path))) s.connected
     refl (of_place s who w (place_of s (components path))))
 
 of_close : (o : Option Open) (s : Share) → (close_open o s).1.connected ≡ s.connected
@@ -58,7 +59,7 @@ of_query (Some o) s = refl
 
 pub step_connected : (s : Share) (who : Who) (r : Req) → (step_of None s who r).1.connected ≡ s.connected
 step_connected s who (req.Create path access share disposition options attributes lease durable) =
-    of_create s who path (record { access = access; share = share; disposition = disposition; options = options; attributes = attributes })
+    of_create s who path (record { access = access; share = share; disposition = disposition; options = options; attributes = attributes; lease = lease; durable = durable })
 step_connected s who (req.Close fid) = of_close (open_of s.opens who fid) s
 step_connected s who (req.Flush fid) = refl
 step_connected s who (req.Query fid) = of_query (open_of s.opens who fid) s

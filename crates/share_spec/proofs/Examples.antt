@@ -13,7 +13,8 @@ use Rattle.share_spec.specs.Reply.{of_status, fid_of, opened_reply}
 use Rattle.share_spec.specs.Step.{step_of}
 use Rattle.share_spec.specs.Cut.{after_cut, after_drop}
 use Rattle.share_spec.specs.Grants.{is_allowed}
-use Rattle.share_spec.specs.Breaks.{lowered, needs_of}
+use Rattle.share_spec.specs.Breaks.{needs_of}
+use Rattle.share_spec.specs.Leases.{lowered}
 use Rattle.share_spec.specs.PlainShare.{shown, plain_step}
 
 us : Who

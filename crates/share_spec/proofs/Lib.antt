@@ -1,3 +1,5 @@
 mod Examples
 mod Rows
 pub mod Cuts
+pub mod Plainly
+pub mod Most

@@ -1,9 +1,10 @@
 -- What the share answers, request by request, at a share whose lists stand here. Statuses are those of MS-ERREF 2.3.1.
-use Rattle.std.proofs.Common.{◌≡◌, ℕ, Bool, true, false, List, [], ◌∷◌, map, refl, None}
+use Rattle.std.proofs.Common.{◌≡◌, ℕ, Bool, true, false, List, [], ◌∷◌, map, refl, Option, Some, None}
 use Rattle.std.specs.Prelude.{codes}
 use Rattle.smb_base.specs.declared.names.Key.{Key}
 use Rattle.share_spec.specs.declared.entry.Entry.{Entry}
 use Rattle.share_spec.specs.declared.node.Node.{Node}
+use Rattle.share_spec.specs.declared.connection.Grant.{Grant}
 use Rattle.share_spec.specs.declared.lease.Lease.{Lease}
 use Rattle.share_spec.specs.declared.opens.Open.{Open}
 use Rattle.share_spec.specs.declared.request.Who.{Who}
@@ -18,7 +19,8 @@ use Rattle.share_spec.specs.declared.connection.Sent.{Sent}
 use Rattle.share_spec.specs.Sent.{behind_create, sent_but}
 use Rattle.share_spec.specs.Names.{components}
 use Rattle.share_spec.specs.State.{fresh_share}
-use Rattle.share_spec.specs.Reply.{of_status, fid_of, opened_reply}
+use Rattle.share_spec.specs.Reply.{of_status, fid_of, granted_reply, opened_reply}
+use Rattle.share_spec.specs.Grants.{is_allowed}
 use Rattle.share_spec.specs.Step.{step_of}
 use Rattle.share_spec.specs.Cut.{after_cut}
 use Rattle.share_spec.specs.Breaks.{needs_of}
@@ -393,3 +395,191 @@ told_to_its_frame = refl
 
 one_removed : sent_but (record { 0 = 2 }) sent ≡ message 1 1 last.Nothing ∷ message 3 3 last.Nothing ∷ []
 one_removed = refl
+
+-- leases and durable opens. Keys that differ, each by its number
+abbrev key : ℕ → Key
+key n = record { 0 = n ∷ n ∷ [] }
+
+-- a Create that shares everything and wants a lease in a state under a key, and perhaps a durable open
+abbrev leasing : List ℕ → ℕ → ℕ → ℕ → ℕ → Bool → Req
+leasing path access disposition n state durable = req.Create path access 7 disposition 0 0x80 (Some (key n, state)) durable
+
+-- an Opened that tells of a lease state and of a durable open
+abbrev gives : ℕ → Bool → ℕ → ℕ → ℕ → ℕ → Rep
+gives state durable number action size attributes =
+    granted_reply (record { key = None; state = state; durable = durable }) number action size attributes
+
+abbrev lease_of_us : ℕ → ℕ → ℕ → Lease
+lease_of_us n of state = record { who = us; key = key n; node = of; state = state; asked = None }
+
+-- a lease is granted as wanted, and a durable open with H alone; without a lease none is
+abbrev granted_alone : List (Req × Rep)
+granted_alone =
+    (leasing (codes "f") 1 1 1 7 true, gives 7 true 7 1 3 0x80)
+    ∷ (leasing (codes "f") 1 1 1 7 false, gives 7 false 7 1 3 0x80)
+    ∷ (leasing (codes "f") 1 1 1 3 true, gives 3 true 7 1 3 0x80)
+    ∷ (leasing (codes "f") 1 1 1 5 true, gives 5 false 7 1 3 0x80)
+    ∷ (leasing (codes "f") 1 1 1 6 true, gives 0 false 7 1 3 0x80)
+    ∷ (leasing (codes "f") 1 1 1 0 true, gives 0 false 7 1 3 0x80)
+    ∷ (leasing (codes "x") 2 2 1 7 true, gives 7 true 7 2 0 0x80)
+    ∷ (req.Create (codes "f") 1 7 1 0 0x80 None true, opened_reply 7 1 3 0x80)
+    ∷ []
+
+each_granted_alone : alone (start false) granted_alone ≡ wanted granted_alone
+unfolding components
+each_granted_alone = refl
+
+-- what others have open bounds it: one that reads takes W from it, one that is to delete H, a locked range R and with it all; one that
+-- looks at attributes nothing
+abbrev beside : ℕ → ℕ → Rep
+beside access options =
+    (step_of None (step_of None (start false) other (create (codes "f") access 1 options)).1 us (leasing (codes "f") 1 1 1 7 true)).0
+
+granted_beside : beside 1 0 ∷ beside 2 0 ∷ beside 0x10000 0x1000 ∷ beside 0x80 0 ∷ []
+    ≡ gives 3 true 8 1 3 0x80 ∷ gives 3 true 8 1 3 0x80 ∷ gives 5 false 8 1 3 0x80 ∷ gives 7 true 8 1 3 0x80 ∷ []
+unfolding components
+granted_beside = refl
+
+abbrev locked : Share
+locked = record (step_of None (start false) other (create (codes "f") 0x80 1 0)).1 {
+  locks = record { holder = 7; offset = 0; length = 1; exclusive = false } ∷ [];
+}
+
+granted_beside_a_lock : (step_of None locked us (leasing (codes "f") 1 1 1 7 true)).0 ≡ gives 0 false 8 1 3 0x80
+unfolding components
+granted_beside_a_lock = refl
+
+-- the share once a lease RH on `f` was granted, or as much less as it chose
+abbrev holding : Option Grant → ℕ → Share
+holding choice state = (step_of choice (start false) us (leasing (codes "f") 1 1 1 state true)).1
+
+abbrev chosen : ℕ → Bool → Option Grant
+chosen state durable = Some (record { lease = state; durable = durable })
+
+granted_less : (holding (chosen 1 false) 7).leases ≡ lease_of_us 1 2 1 ∷ []
+unfolding components
+granted_less = refl
+
+-- a lease of the state none is one
+granted_none : (holding (chosen 0 false) 7).leases ≡ lease_of_us 1 2 0 ∷ []
+unfolding components
+granted_none = refl
+
+keys_left : map (λ (o : Open). o.key) (holding (chosen 0 false) 7).opens ≡ Some (key 1) ∷ []
+unfolding components
+keys_left = refl
+
+-- what may be chosen where RH and a durable open are wanted: none, R or RH, and a durable open with H alone
+abbrev allowed : Share → ℕ → Bool → List (ℕ × Bool) → List Bool
+allowed s state durable choices =
+    map (λ (c : ℕ × Bool). is_allowed (chosen c.0 c.1) s us (leasing (codes "f") 1 1 1 state durable)) choices
+
+allowed_alone : allowed (start false) 3 true ((0, false) ∷ (1, false) ∷ (3, false) ∷ (3, true) ∷ (1, true) ∷ (2, false) ∷ (5, false) ∷ (7, true) ∷ [])
+    ≡ true ∷ true ∷ true ∷ true ∷ false ∷ false ∷ false ∷ false ∷ []
+unfolding components
+allowed_alone = refl
+
+-- where no durable open is wanted none; where R stands not less
+allowed_over_one : allowed (holding (chosen 1 false) 7) 3 false ((0, false) ∷ (1, false) ∷ (3, false) ∷ (3, true) ∷ (5, false) ∷ [])
+    ≡ false ∷ true ∷ true ∷ false ∷ false ∷ []
+unfolding components
+allowed_over_one = refl
+
+-- the same key again on the same file: the lease is raised by what is wanted more, and not lowered by what is wanted less
+abbrev leases_after : Share → Req → List Lease
+leases_after s r = (step_of None s us r).1.leases
+
+raised_again : leases_after (holding (chosen 1 false) 7) (leasing (codes "f") 1 1 1 5 false) ≡ lease_of_us 1 2 5 ∷ []
+unfolding components
+raised_again = refl
+
+not_lowered : leases_after (holding None 7) (leasing (codes "f") 1 1 1 1 false) ≡ lease_of_us 1 2 7 ∷ []
+unfolding components
+not_lowered = refl
+
+-- its own opens do not stand in its way: another key has the file to read, which takes W
+under_another_key : (step_of None (holding None 3) us (leasing (codes "f") 1 1 2 7 true)).0 ≡ gives 3 true 8 1 3 0x80
+unfolding components
+under_another_key = refl
+
+-- while a break of it is asked it stays as it is
+abbrev asked_for_none : Share
+asked_for_none = record (holding None 1) { leases = record (lease_of_us 1 2 1) { asked = Some 0 } ∷ [] }
+
+not_raised_while_asked : leases_after asked_for_none (leasing (codes "f") 1 1 1 7 true) ≡ record (lease_of_us 1 2 1) { asked = Some 0 } ∷ []
+unfolding components
+not_raised_while_asked = refl
+
+-- a key that stands on another file is refused, behind what refuses the file itself and before what others have open there
+abbrev elsewhere_rows : List (Req × Rep)
+elsewhere_rows =
+    (leasing (codes "d\\g") 1 1 1 7 true, of_status 0xC000000D)
+    ∷ (leasing (codes "d\\g") 1 1 2 7 true, gives 7 true 8 1 0 0x80)
+    ∷ (leasing (codes "x") 1 3 1 7 true, of_status 0xC000000D)
+    ∷ (leasing (codes "x") 1 1 1 7 true, of_status 0xC0000034)
+    ∷ (leasing (codes "r") 2 1 1 7 true, of_status 0xC0000022)
+    ∷ (leasing (codes "d\\g") 1 2 1 7 true, of_status 0xC0000035)
+    ∷ []
+
+each_elsewhere : alone (holding None 7) elsewhere_rows ≡ wanted elsewhere_rows
+unfolding components
+each_elsewhere = refl
+
+before_sharing : (step_of None (step_of None (holding None 7) other (shared (codes "d\\g") 1 0 1 0)).1 us (leasing (codes "d\\g") 1 1 1 7 true)).0
+    ≡ of_status 0xC000000D
+unfolding components
+before_sharing = refl
+
+-- under a key of another client's lease nothing is granted, and the open has no key
+abbrev foreign_key : Rep × Share
+foreign_key = step_of None (holding None 3) other (leasing (codes "d\\g") 1 1 1 7 true)
+
+nothing_under_a_foreign_key : foreign_key.0 ≡ opened_reply 8 1 0 0x80
+unfolding components
+nothing_under_a_foreign_key = refl
+
+keys_under_a_foreign_key : map (λ (o : Open). o.key) foreign_key.1.opens ≡ Some (key 1) ∷ None ∷ []
+unfolding components
+keys_under_a_foreign_key = refl
+
+leases_under_a_foreign_key : foreign_key.1.leases ≡ lease_of_us 1 2 3 ∷ []
+unfolding components
+leases_under_a_foreign_key = refl
+
+-- a Create that wants nothing beside a lease of another: it is granted nothing, and leaves the lease
+abbrev beside_a_lease : Rep × Share
+beside_a_lease = step_of None (holding None 3) other (create (codes "f") 1 1 0)
+
+nothing_beside_a_lease : beside_a_lease.0 ≡ opened_reply 8 1 3 0x80
+unfolding components
+nothing_beside_a_lease = refl
+
+leases_beside_a_lease : beside_a_lease.1.leases ≡ lease_of_us 1 2 3 ∷ []
+unfolding components
+leases_beside_a_lease = refl
+
+-- a Create waits for the leases under other keys alone, and one that is refused for its key for none
+abbrev needs : Req → List (Key × ℕ)
+needs r = needs_of (holding None 7) us r
+
+needs_of_keys : needs (leasing (codes "f") 2 1 1 7 true) ∷ needs (leasing (codes "f") 2 1 2 7 true) ∷ needs (leasing (codes "d\\g") 2 1 1 7 true) ∷ []
+    ≡ [] ∷ ((key 1, 3) ∷ []) ∷ [] ∷ []
+unfolding components
+needs_of_keys = refl
+
+-- the lease ends with the last open that has its key, and at a cut with one that is not durable; a durable one is disconnected
+leases_behind_a_close : (step_of None (holding None 7) us (req.Close (fid_of 7))).1.leases ≡ []
+unfolding components
+leases_behind_a_close = refl
+
+leases_behind_a_cut : (after_cut (holding None 7)).leases ≡ lease_of_us 1 2 7 ∷ []
+unfolding components
+leases_behind_a_cut = refl
+
+connected_behind_a_cut : map (λ (o : Open). o.connected) (after_cut (holding None 7)).opens ≡ false ∷ []
+unfolding components
+connected_behind_a_cut = refl
+
+none_behind_a_cut : (after_cut (holding None 5)).leases ≡ []
+unfolding components
+none_behind_a_cut = refl

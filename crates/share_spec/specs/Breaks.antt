@@ -1,5 +1,5 @@
 -- The breaks that a request has to wait for. The table is this project's own; MS-FSA 2.1.4.12 has the breaks of a file server.
-use Rattle.std.specs.Prelude.{ℕ, ◌==◌, ◌+◌, Bool, true, false, not, ◌&&◌, ◌||◌, is_some, if◌then◌else◌, List, [], ◌∷◌}
+use Rattle.std.specs.Prelude.{ℕ, ◌==◌, Bool, false, not, ◌&&◌, ◌||◌, is_some, if◌then◌else◌, List, [], ◌∷◌, Option, Some, None}
 use Rattle.std.specs.List.{list_any, list_all}
 use Rattle.smb_base.specs.declared.names.Key.{Key}
 use Rattle.share_spec.specs.declared.entry.Entry.{Entry}
@@ -15,11 +15,8 @@ use Rattle.share_spec.specs.declared.share.Share.{Share}
 use Rattle.share_spec.specs.Names.{is_name, components}
 use Rattle.share_spec.specs.State.{has, is_directory, is_pending}
 use Rattle.share_spec.specs.Place.{place_of}
-use Rattle.share_spec.specs.Create.{is_disposition, overwrites, has_unshared, refusal_of_kind, refusal_of_read_only}
-
--- a set of the bits R 1, H 2 and W 4
-abbrev pub bits : Bool → Bool → Bool → ℕ
-bits r h w = (if r then 1 else 0) + (if h then 2 else 0) + (if w then 4 else 0)
+use Rattle.share_spec.specs.Leases.{bits, lowered, is_lease_of}
+use Rattle.share_spec.specs.Create.{is_disposition, overwrites, has_unshared, refusal_of_kind, refusal_of_read_only, refusal_of_key}
 
 -- the bits of other leases that a Create of what is there has to see gone
 abbrev pub bits_of_create : Share → Wanted → ℕ → ℕ
@@ -27,11 +24,6 @@ bits_of_create s w node = bits
     (overwrites w.disposition)
     (overwrites w.disposition || has w.options 0x1000 || has_unshared s.opens node w)
     (overwrites w.disposition || has w.access 7)
-
--- the state that is left of a lease once these bits are gone: none, R, RH, RW or RWH, lowered where it would be another
-abbrev pub lowered : ℕ → ℕ → ℕ
-lowered state gone = if has state 1 && not (has gone 1)
-    then bits true (has state 2 && not (has gone 2)) (has state 4 && not (has gone 4)) else 0
 
 -- a node lies beneath a directory: one of its entries is in it, or in a directory beneath it; at most as many levels down as the
 -- first list is long, which is asked with all entries
@@ -47,39 +39,47 @@ gone_from s w node l =
     if l.node == node then bits_of_create s w node
     else if has w.options 0x1000 && not (is_directory s.nodes l.node) && is_beneath s.entries s.entries node l.node then 2 else 0
 
--- the leases that have such a bit, each with the state to break it to
-abbrev pub needs_in : Share → Wanted → ℕ → List Lease → List (Key × ℕ)
-needs_in s w node [] = []
-needs_in s w node (l ∷ ls) =
-    if has l.state (gone_from s w node l) then (l.key, lowered l.state (gone_from s w node l)) ∷ needs_in s w node ls
-    else needs_in s w node ls
+-- a lease is the one that the Create has the key of
+abbrev pub is_own : Who → Option (Key × ℕ) → Lease → Bool
+is_own who None l = false
+is_own who (Some wish) l = is_lease_of who wish.0 l
 
-abbrev pub needs_on : Share → Wanted → ℕ → List (Key × ℕ)
-needs_on s w node = needs_in s w node s.leases
+-- the leases under other keys that have such a bit, each with the state to break it to
+abbrev pub needs_in : Share → Who → Wanted → ℕ → List Lease → List (Key × ℕ)
+needs_in s who w node [] = []
+needs_in s who w node (l ∷ ls) =
+    if not (is_own who w.lease l) && has l.state (gone_from s w node l)
+    then (l.key, lowered l.state (gone_from s w node l)) ∷ needs_in s who w node ls
+    else needs_in s who w node ls
+
+abbrev pub needs_on : Share → Who → Wanted → ℕ → List (Key × ℕ)
+needs_on s who w node = needs_in s who w node s.leases
 
 -- a Create that is refused before it comes to what others have open needs no break
-abbrev pub is_refused_early : Share → Wanted → Found → Bool
-is_refused_early s w f = is_pending s.entries f.entry || w.disposition == 2
-    || is_some (refusal_of_kind s w f.node) || is_some (refusal_of_read_only s w f.node)
+abbrev pub is_refused_early : Share → Who → Wanted → Found → Bool
+is_refused_early s who w f = is_pending s.entries f.entry || w.disposition == 2
+    || is_some (refusal_of_kind s w f.node) || is_some (refusal_of_read_only s w f.node) || is_some (refusal_of_key s who w f.node)
 
-abbrev pub needs_at : Share → Wanted → Place → List (Key × ℕ)
-needs_at s w NoPath = []
-needs_at s w (Missing d name) = []
-needs_at s w (There f) = if is_refused_early s w f then [] else needs_on s w f.node
+abbrev pub needs_at : Share → Who → Wanted → Place → List (Key × ℕ)
+needs_at s who w NoPath = []
+needs_at s who w (Missing d name) = []
+needs_at s who w (There f) = if is_refused_early s who w f then [] else needs_on s who w f.node
 
 -- the breaks that a Create has to wait for
-abbrev pub needs_of_create : Share → List ℕ → Wanted → List (Key × ℕ)
-needs_of_create s path w =
-    if is_disposition w.disposition && list_all is_name (components path) then needs_at s w (place_of s (components path)) else []
+abbrev pub needs_of_create : Share → Who → List ℕ → Wanted → List (Key × ℕ)
+needs_of_create s who path w =
+    if is_disposition w.disposition && list_all is_name (components path) then needs_at s who w (place_of s (components path)) else []
 
 -- the breaks that a request has to wait for: a Query and a Close need none
 abbrev pub needs_of : Share → Who → Req → List (Key × ℕ)
 needs_of s who (req.Create path access share disposition options attributes lease durable) =
-    needs_of_create s path (record {
+    needs_of_create s who path (record {
       access = access;
       share = share;
       disposition = disposition;
       options = options;
       attributes = attributes;
+      lease = lease;
+      durable = durable;
     })
 needs_of s who r = []

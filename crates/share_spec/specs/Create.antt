@@ -1,6 +1,8 @@
--- Create (MS-FSA 2.1.5.1), for one that wants neither a lease nor a durable open. The order of the checks is this project's own.
+-- Create (MS-FSA 2.1.5.1), with the lease and the durable open that it may want. The order of the checks is this project's own.
 use Rattle.std.specs.Prelude.{ℕ, ◌==◌, ◌+◌, Bool, true, false, not, ◌&&◌, ◌||◌, nat_le, if◌then◌else◌, List, [], ◌∷◌, ◌++◌, map, Option, Some, None}
 use Rattle.std.specs.List.{list_any, list_all}
+use Rattle.share_spec.specs.declared.connection.Grant.{Grant}
+use Rattle.share_spec.specs.declared.granting.Granting.{Granting}
 use Rattle.share_spec.specs.declared.opens.Open.{Open}
 use Rattle.share_spec.specs.declared.place.Found.{Found}
 use Rattle.share_spec.specs.declared.place.Place.{Place}
@@ -12,7 +14,8 @@ use Rattle.share_spec.specs.declared.share.Share.{Share}
 use Rattle.share_spec.specs.Names.{is_name, components}
 use Rattle.share_spec.specs.State.{has, is_directory, is_read_only, size_of, emptied, has_entries, is_pending, is_going}
 use Rattle.share_spec.specs.Place.{place_of}
-use Rattle.share_spec.specs.Reply.{refused, unless, attributes_of, opened_reply}
+use Rattle.share_spec.specs.Leases.{is_elsewhere, granting_of, with_granting}
+use Rattle.share_spec.specs.Reply.{refused, unless, attributes_of, granted_reply}
 
 -- OPEN 1, CREATE 2, OPEN_IF 3, OVERWRITE 4, OVERWRITE_IF 5 (MS-SMB2 2.2.13)
 abbrev pub is_disposition : ℕ → Bool
@@ -40,12 +43,16 @@ is_unshared w o = takes_part w.access && takes_part o.access && not (is_within w
 abbrev pub has_unshared : List Open → ℕ → Wanted → Bool
 has_unshared opens node w = list_any (λ o. o.node == node && is_unshared w o) opens
 
--- why a Create is refused whose name is missing in a directory
-abbrev pub refusal_of_missing : Share → Wanted → ℕ → Option ℕ
-refusal_of_missing s w d =
+-- why a Create is refused whose key stands on another node
+abbrev pub refusal_of_key : Share → Who → Wanted → ℕ → Option ℕ
+refusal_of_key s who w node = if is_elsewhere s.leases who w.lease node then Some 0xC000000D else None  -- INVALID_PARAMETER
+
+-- why a Create is refused whose name is missing in a directory; what it would make is no node yet, so each node is another
+abbrev pub refusal_of_missing : Share → Who → Wanted → ℕ → Option ℕ
+refusal_of_missing s who w d =
     if w.disposition == 1 || w.disposition == 4 then Some 0xC0000034  -- OPEN, OVERWRITE: OBJECT_NAME_NOT_FOUND
     else if is_going s.entries d then Some 0xC0000056  -- the directory is to go: DELETE_PENDING
-    else None
+    else refusal_of_key s who w 0
 
 -- why a Create is refused for the kind of what its name stands for
 abbrev pub refusal_of_kind : Share → Wanted → ℕ → Option ℕ
@@ -76,23 +83,24 @@ refusal_of_use s w node =
     else None
 
 -- why a Create is refused whose name is there, the first reason of all
-abbrev pub refusal_of_there : Share → Wanted → Found → Option ℕ
-refusal_of_there s w f =
+abbrev pub refusal_of_there : Share → Who → Wanted → Found → Option ℕ
+refusal_of_there s who w f =
     if is_pending s.entries f.entry then Some 0xC0000056  -- DELETE_PENDING
     else if w.disposition == 2 then Some 0xC0000035  -- CREATE: OBJECT_NAME_COLLISION
-    else or_else (refusal_of_kind s w f.node) (or_else (refusal_of_read_only s w f.node) (refusal_of_use s w f.node))
+    else or_else (refusal_of_kind s w f.node)
+    (or_else (refusal_of_read_only s w f.node) (or_else (refusal_of_key s who w f.node) (refusal_of_use s w f.node)))
 
--- the open that a Create makes
-abbrev pub open_with : ℕ → Who → Wanted → ℕ → ℕ → Open
-open_with number who w node entry = record {
+-- the open that a Create makes, with what it is granted
+abbrev pub open_with : ℕ → Who → Wanted → Granting → ℕ → ℕ → Open
+open_with number who w g node entry = record {
   number = number;
   who = who;
   node = node;
   entry = entry;
   access = w.access;
   share = w.share;
-  key = None;
-  durable = false;
+  key = g.key;
+  durable = g.durable;
   connected = true;
   delete_on_close = has w.options 0x1000;
   snapshot = None;
@@ -112,32 +120,37 @@ with_new d name dir read_only s = record s {
 }
 
 -- a Create that makes a file, or a directory with DIRECTORY_FILE, read-only as the attributes say, and opens it: action 2
-abbrev pub made : Share → Who → Wanted → ℕ → List ℕ → Rep × Share
-made s who w d name = (
-  opened_reply (s.opens_made + 1) 2 0 (attributes_of (has w.options 1) (has w.attributes 1)),
-  with_new d name (has w.options 1) (has w.attributes 1)
-      (with_open (open_with (s.opens_made + 1) who w (s.nodes_made + 1) (s.entries_made + 1)) s),
+abbrev pub made : Share → Who → Wanted → Granting → ℕ → List ℕ → Rep × Share
+made s who w g d name = (
+  granted_reply g (s.opens_made + 1) 2 0 (attributes_of (has w.options 1) (has w.attributes 1)),
+  with_granting who g (s.nodes_made + 1)
+      (with_new d name (has w.options 1) (has w.attributes 1)
+      (with_open (open_with (s.opens_made + 1) who w g (s.nodes_made + 1) (s.entries_made + 1)) s)),
 )
 
 -- a Create that opens what is there: action 1, or 3 where its bytes are taken away
-abbrev pub opened : Share → Who → Wanted → Found → Rep × Share
-opened s who w f = (
-  opened_reply (s.opens_made + 1) (if overwrites w.disposition then 3 else 1)
+abbrev pub opened : Share → Who → Wanted → Granting → Found → Rep × Share
+opened s who w g f = (
+  granted_reply g (s.opens_made + 1) (if overwrites w.disposition then 3 else 1)
       (if overwrites w.disposition then 0 else size_of s.nodes f.node)
       (attributes_of (is_directory s.nodes f.node) (is_read_only s.nodes f.node)),
-  with_open (open_with (s.opens_made + 1) who w f.node f.entry)
-      (if overwrites w.disposition then record s { nodes = map (emptied f.node) s.nodes } else s),
+  with_granting who g f.node
+      (with_open (open_with (s.opens_made + 1) who w g f.node f.entry)
+      (if overwrites w.disposition then record s { nodes = map (emptied f.node) s.nodes } else s)),
 )
 
 -- a Create at the place where its path leads; OBJECT_PATH_NOT_FOUND where it leads nowhere
-abbrev pub create_at : Share → Who → Wanted → Place → Rep × Share
-create_at s who w NoPath = refused 0xC000003A s
-create_at s who w (Missing d name) = unless (refusal_of_missing s w d) s (made s who w d name)
-create_at s who w (There f) = unless (refusal_of_there s w f) s (opened s who w f)
+abbrev pub create_at : Option Grant → Share → Who → Wanted → Place → Rep × Share
+create_at choice s who w NoPath = refused 0xC000003A s
+create_at choice s who w (Missing d name) =
+    unless (refusal_of_missing s who w d) s (made s who w (granting_of choice s who w (s.nodes_made + 1)) d name)
+create_at choice s who w (There f) =
+    unless (refusal_of_there s who w f) s (opened s who w (granting_of choice s who w f.node) f)
 
--- a Create: INVALID_PARAMETER at another disposition, OBJECT_NAME_INVALID where a component is no name, and then at its place
-abbrev pub create_of : Share → Who → List ℕ → Wanted → Rep × Share
-create_of s who path w =
+-- a Create, where the share chose so, or as much as it may: INVALID_PARAMETER at another disposition, OBJECT_NAME_INVALID where a
+-- component is no name, and then at its place
+abbrev pub create_of : Option Grant → Share → Who → List ℕ → Wanted → Rep × Share
+create_of choice s who path w =
     if not (is_disposition w.disposition) then refused 0xC000000D s
     else if not (list_all is_name (components path)) then refused 0xC0000033 s
-    else create_at s who w (place_of s (components path))
+    else create_at choice s who w (place_of s (components path))

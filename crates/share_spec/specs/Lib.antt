@@ -3,6 +3,7 @@ pub mod Built
 pub mod State
 pub mod Place
 pub mod Reply
+pub mod Leases
 pub mod Create
 pub mod Close
 pub mod Query

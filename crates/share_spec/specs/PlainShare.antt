@@ -1,5 +1,6 @@
 -- The share as a client without leases, durable opens and connections sees it.
 use Rattle.std.specs.Prelude.{true, false, [], map, Some, None}
+use Rattle.share_spec.specs.declared.create.Wanted.{Wanted}
 use Rattle.share_spec.specs.declared.opens.Open.{Open}
 use Rattle.share_spec.specs.declared.request.Who.{Who}
 use Rattle.share_spec.specs.declared.request.Rep.{Rep}
@@ -18,6 +19,10 @@ plain_open o = record o { key = None; durable = false; connected = true }
 -- the share without leases, and without a connection
 abbrev pub plain_share : Share → Share
 plain_share s = record s { opens = map plain_open s.opens; leases = []; connected = false; sent = []; owed = []; held = []; grants = [] }
+
+-- what a Create wants, without a lease and a durable open
+abbrev pub plain_wanted : Wanted → Wanted
+plain_wanted w = record w { lease = None; durable = false }
 
 -- a request without the wish for a lease or a durable open
 abbrev pub plain_request : Req → Req

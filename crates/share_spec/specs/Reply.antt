@@ -1,6 +1,7 @@
 -- Replies of the share: one of a status alone, and what a reply shows of an open and its file.
 use Rattle.std.specs.Prelude.{ℕ, Bool, false, if◌then◌else◌, Option, Some, None}
 use Rattle.smb_base.specs.declared.names.Fid.{Fid}
+use Rattle.share_spec.specs.declared.granting.Granting.{Granting}
 use Rattle.share_spec.specs.declared.request.Rep.{Rep}
 use Rattle.share_spec.specs.declared.request.RepBody.TheVariants as body
 use Rattle.share_spec.specs.declared.request.Req.{Req}
@@ -34,7 +35,11 @@ map_fid f r = r
 abbrev pub attributes_of : Bool → Bool → ℕ
 attributes_of dir read_only = if dir then (if read_only then 0x11 else 0x10) else (if read_only then 1 else 0x80)
 
--- the reply to a Create that was done
+-- the reply to a Create that was done and granted so much: the lease state, and whether the open is durable
+abbrev pub granted_reply : Granting → ℕ → ℕ → ℕ → ℕ → Rep
+granted_reply g number action size attributes =
+    record { status = record { 0 = 0 }; body = body.Opened (fid_of number) action size attributes g.state g.durable }
+
+-- the same, where nothing is granted
 abbrev pub opened_reply : ℕ → ℕ → ℕ → ℕ → Rep
-opened_reply number action size attributes =
-    record { status = record { 0 = 0 }; body = body.Opened (fid_of number) action size attributes 0 false }
+opened_reply number action size attributes = granted_reply (record { key = None; state = 0; durable = false }) number action size attributes

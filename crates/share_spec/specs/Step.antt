@@ -15,12 +15,14 @@ use Rattle.share_spec.specs.Reply.{refused}
 -- does not know is refused as NOT_SUPPORTED
 abbrev pub step_of : Option Grant → Share → Who → Req → Rep × Share
 step_of choice s who (req.Create path access share disposition options attributes lease durable) =
-    create_of s who path (record {
+    create_of choice s who path (record {
       access = access;
       share = share;
       disposition = disposition;
       options = options;
       attributes = attributes;
+      lease = lease;
+      durable = durable;
     })
 step_of choice s who (req.Close fid) = close_of s who fid
 step_of choice s who (req.Query fid) = query_of s who fid

@@ -1,18 +1,21 @@
-//! Create, for one that wants neither a lease nor a durable open.
+//! Create, with the lease and the durable open that it may want. As much is granted of these as may be.
 
-ghost use Rattle.std.specs.Prelude.{◌≡◌, ◌+◌, IfOk, OnOk, OnErr, option_map};
+ghost use Rattle.std.specs.Prelude.{◌≡◌, ◌+◌, IfOk, OnOk, OnErr, None, option_map};
 ghost use Rattle.share_spec.specs.State.{has};
-ghost use Rattle.share_spec.specs.Reply.{attributes_of, opened_reply};
-ghost use Rattle.share_spec.specs.Create.{is_disposition, overwrites, is_within, takes_part, is_unshared, refusal_of_missing, refusal_of_kind, refusal_of_read_only, refusal_of_use, refusal_of_there, open_with, with_open, with_new, made, opened, create_at, create_of};
+ghost use Rattle.share_spec.specs.Reply.{attributes_of, granted_reply};
+ghost use Rattle.share_spec.specs.Leases.{granting_of, with_granting};
+ghost use Rattle.share_spec.specs.Create.{is_disposition, overwrites, is_within, takes_part, is_unshared, refusal_of_key, refusal_of_missing, refusal_of_kind, refusal_of_read_only, refusal_of_use, refusal_of_there, open_with, with_open, with_new, made, opened, create_at, create_of};
+ghost use Rattle.share_spec.specs.declared.place.Place.TheVariants.{Missing, There};
 
 use crate::entry::{Entry, has_entries, is_going, is_pending};
+use crate::granting::{Granting, grant, granting_of, is_elsewhere};
 use crate::names::{are_names, components};
 use crate::node::{Node, is_directory, is_read_only, size_of};
 use crate::opens::{Open, has_unshared};
 use crate::place::{Found, Place, place_of};
 use crate::request::{Rep, RepBody, Who, of_status};
 use crate::share::Share;
-use smb_base::{Bytes, Fid, NoMemory, Status, Units};
+use smb_base::{Bytes, Fid, Key, NoMemory, Status, Units};
 use std::alloc::Global;
 
 const OPEN: u32 = 1;
@@ -50,6 +53,10 @@ pub struct Wanted {
     pub options: u32,
     /// The attributes of what is made (MS-FSCC 2.6).
     pub attributes: u32,
+    /// The lease: its key and its state.
+    pub lease: Option<(Key, u8)>,
+    /// A durable open.
+    pub durable: bool,
 }
 
 // The number has one of these bits.
@@ -98,9 +105,19 @@ pub(crate) fn is_unshared(w: Wanted, other: &Open) -> bool
         && !(is_within(w.access, other.share) && is_within(other.access, w.share))
 }
 
+// Why a Create is refused whose key stands on another node.
+pub(crate) fn refusal_of_key(s: &Share, who: Who, w: Wanted, node: u64) -> Option<Status>
+    ensures { option_map (λ f. f.0) result ≡ refusal_of_key s.now who w node }
+{
+    if is_elsewhere(s.leases.as_slice(), who, w.lease, node) {
+        return Some(Status::INVALID_PARAMETER);
+    }
+    None
+}
+
 // Why a Create is refused whose name is missing.
-fn refusal_of_missing(s: &Share, w: Wanted, directory: u64) -> Option<Status>
-    ensures { option_map (λ f. f.0) result ≡ refusal_of_missing s.now w directory }
+fn refusal_of_missing(s: &Share, who: Who, w: Wanted, directory: u64) -> Option<Status>
+    ensures { option_map (λ f. f.0) result ≡ refusal_of_missing s.now who w directory }
 {
     if w.disposition == OPEN || w.disposition == OVERWRITE {
         return Some(Status::OBJECT_NAME_NOT_FOUND);
@@ -108,7 +125,7 @@ fn refusal_of_missing(s: &Share, w: Wanted, directory: u64) -> Option<Status>
     if is_going(s.entries.as_slice(), directory) {
         return Some(Status::DELETE_PENDING);
     }
-    None
+    refusal_of_key(s, who, w, 0)
 }
 
 // Why a Create is refused for the kind of what is there.
@@ -163,8 +180,8 @@ fn refusal_of_use(s: &Share, w: Wanted, node: u64) -> Option<Status>
 }
 
 // Why a Create is refused whose name is there.
-fn refusal_of_there(s: &Share, w: Wanted, f: Found) -> Option<Status>
-    ensures { option_map (λ f. f.0) result ≡ refusal_of_there s.now w f }
+fn refusal_of_there(s: &Share, who: Who, w: Wanted, f: Found) -> Option<Status>
+    ensures { option_map (λ f. f.0) result ≡ refusal_of_there s.now who w f }
 {
     if is_pending(s.entries.as_slice(), f.entry) {
         return Some(Status::DELETE_PENDING);
@@ -176,6 +193,9 @@ fn refusal_of_there(s: &Share, w: Wanted, f: Found) -> Option<Status>
         return Some(status);
     }
     if let Some(status) = refusal_of_read_only(s, w, f.node) {
+        return Some(status);
+    }
+    if let Some(status) = refusal_of_key(s, who, w, f.node) {
         return Some(status);
     }
     refusal_of_use(s, w, f.node)
@@ -193,9 +213,9 @@ fn attributes_of(dir: bool, read_only: bool) -> u32
     }
 }
 
-// The reply to a Create that was done.
-fn opened_reply(number: u64, action: u32, size: u64, attributes: u32) -> Rep
-    ensures { result ≡ opened_reply number action size attributes }
+// The reply to a Create that was done and granted so much.
+fn granted_reply(g: Granting, number: u64, action: u32, size: u64, attributes: u32) -> Rep
+    ensures { result ≡ granted_reply g number action size attributes }
 {
     Rep {
         status: Status::SUCCESS,
@@ -207,8 +227,8 @@ fn opened_reply(number: u64, action: u32, size: u64, attributes: u32) -> Rep
             action,
             size,
             attributes,
-            lease: 0,
-            durable: false,
+            lease: g.state,
+            durable: g.durable,
         },
     }
 }
@@ -221,8 +241,8 @@ fn next(made: u64) -> Result<u64, NoMemory>
 }
 
 // The open that a Create makes.
-fn new_open(number: u64, who: Who, w: Wanted, node: u64, entry: u64) -> Open
-    ensures { result ≡ open_with number who w node entry }
+fn new_open(number: u64, who: Who, w: Wanted, g: Granting, node: u64, entry: u64) -> Open
+    ensures { result ≡ open_with number who w g node entry }
 {
     Open {
         number,
@@ -231,8 +251,8 @@ fn new_open(number: u64, who: Who, w: Wanted, node: u64, entry: u64) -> Open
         entry,
         access: w.access,
         share: w.share,
-        key: None,
-        durable: false,
+        key: g.key,
+        durable: g.durable,
         connected: true,
         delete_on_close: has(w.options, DELETE_ON_CLOSE),
         snapshot: None,
@@ -289,25 +309,54 @@ fn add_new(
     }
 }
 
+// Adds a new node as above, with what is granted on it. For want of memory nothing is changed.
+fn add_granted(
+    alloc: Global,
+    s: &mut Share,
+    directory: u64,
+    name: Units,
+    w: Wanted,
+    who: Who,
+    g: Granting,
+) -> Result<(), NoMemory>
+    ensures ok { OnOk result (s.new ≡ with_granting who g (s.old.nodes_made + 1) (with_new directory name (has w.options 1) (has w.attributes 1) s.old)) }
+    ensures err { OnErr result (s.new ≡ s.old) }
+{
+    let (nodes, entries) = (s.nodes_made, s.entries_made);
+    let node = next(nodes)?;
+    let dir = has(w.options, DIRECTORY_FILE);
+    add_new(alloc, s, directory, name, dir, has(w.attributes, READONLY))?;
+    match grant(s, who, g, node) {
+        Ok(()) => Ok(()),
+        Err(NoMemory) => {
+            s.nodes.drop_last();
+            s.entries.drop_last();
+            s.nodes_made = nodes;
+            s.entries_made = entries;
+            Err(NoMemory)
+        }
+    }
+}
+
 // A Create that makes a file or a directory and opens it. For want of memory nothing is changed.
 fn make(
     alloc: Global,
     s: &mut Share,
     who: Who,
     w: Wanted,
+    g: Granting,
     directory: u64,
     name: Units,
 ) -> Result<Rep, NoMemory>
-    ensures ok { IfOk result (λ r. made s.old who w directory name ≡ (r, s.new)) }
+    ensures ok { IfOk result (λ r. made s.old who w g directory name ≡ (r, s.new)) }
     ensures err { OnErr result (s.new ≡ s.old) }
 {
     let number = next(s.opens_made)?;
     let (node, entry) = (next(s.nodes_made)?, next(s.entries_made)?);
-    let dir = has(w.options, DIRECTORY_FILE);
-    let read_only = has(w.attributes, READONLY);
-    add_open(s, new_open(number, who, w, node, entry))?;
-    match add_new(alloc, s, directory, name, dir, read_only) {
-        Ok(()) => Ok(opened_reply(number, 2, 0, attributes_of(dir, read_only))),
+    let attributes = attributes_of(has(w.options, DIRECTORY_FILE), has(w.attributes, READONLY));
+    add_open(s, new_open(number, who, w, g, node, entry))?;
+    match add_granted(alloc, s, directory, name, w, who, g) {
+        Ok(()) => Ok(granted_reply(g, number, 2, 0, attributes)),
         Err(NoMemory) => {
             s.opens.drop_last();
             s.opens_made = number - 1;
@@ -316,9 +365,39 @@ fn make(
     }
 }
 
+// Adds an open, with what is granted on its node. For want of memory nothing is changed.
+fn add_open_granted(
+    s: &mut Share,
+    new: Open,
+    who: Who,
+    g: Granting,
+    node: u64,
+) -> Result<(), NoMemory>
+    ensures ok { OnOk result (s.new ≡ with_granting who g node (with_open new s.old)) }
+    ensures err { OnErr result (s.new ≡ s.old) }
+{
+    let made = s.opens_made;
+    add_open(s, new)?;
+    match grant(s, who, g, node) {
+        Ok(()) => Ok(()),
+        Err(NoMemory) => {
+            s.opens.drop_last();
+            s.opens_made = made;
+            Err(NoMemory)
+        }
+    }
+}
+
 // A Create that opens what is there. For want of memory nothing is changed.
-fn open_there(alloc: Global, s: &mut Share, who: Who, w: Wanted, f: Found) -> Result<Rep, NoMemory>
-    ensures ok { IfOk result (λ r. opened s.old who w f ≡ (r, s.new)) }
+fn open_there(
+    alloc: Global,
+    s: &mut Share,
+    who: Who,
+    w: Wanted,
+    g: Granting,
+    f: Found,
+) -> Result<Rep, NoMemory>
+    ensures ok { IfOk result (λ r. opened s.old who w g f ≡ (r, s.new)) }
     ensures err { OnErr result (s.new ≡ s.old) }
 {
     let number = next(s.opens_made)?;
@@ -326,12 +405,56 @@ fn open_there(alloc: Global, s: &mut Share, who: Who, w: Wanted, f: Found) -> Re
     let read_only = is_read_only(s.nodes.as_slice(), f.node);
     let attributes = attributes_of(dir, read_only);
     let size = size_of(s.nodes.as_slice(), f.node);
-    add_open(s, new_open(number, who, w, f.node, f.entry))?;
+    add_open_granted(
+        s,
+        new_open(number, who, w, g, f.node, f.entry),
+        who,
+        g,
+        f.node,
+    )?;
     if overwrites(w.disposition) {
         s.nodes.empty(alloc, f.node);
-        return Ok(opened_reply(number, 3, 0, attributes));
+        return Ok(granted_reply(g, number, 3, 0, attributes));
     }
-    Ok(opened_reply(number, 1, size, attributes))
+    Ok(granted_reply(g, number, 1, size, attributes))
+}
+
+// A Create of what is missing in a directory.
+fn create_missing(
+    alloc: Global,
+    s: &mut Share,
+    who: Who,
+    w: Wanted,
+    directory: u64,
+    name: Units,
+) -> Result<Rep, NoMemory>
+    ensures ok { IfOk result (λ r. create_at None s.old who w (Missing directory name) ≡ (r, s.new)) }
+    ensures err { OnErr result (s.new ≡ s.old) }
+{
+    if let Some(status) = refusal_of_missing(s, who, w, directory) {
+        return Ok(of_status(status));
+    }
+    let node = next(s.nodes_made)?;
+    let g = granting_of(s, who, w, node);
+    make(alloc, s, who, w, g, directory, name)
+}
+
+// A Create of what is there.
+fn create_there(
+    alloc: Global,
+    s: &mut Share,
+    who: Who,
+    w: Wanted,
+    f: Found,
+) -> Result<Rep, NoMemory>
+    ensures ok { IfOk result (λ r. create_at None s.old who w (There f) ≡ (r, s.new)) }
+    ensures err { OnErr result (s.new ≡ s.old) }
+{
+    if let Some(status) = refusal_of_there(s, who, w, f) {
+        return Ok(of_status(status));
+    }
+    let g = granting_of(s, who, w, f.node);
+    open_there(alloc, s, who, w, g, f)
 }
 
 // A Create at the place where its path leads.
@@ -342,19 +465,13 @@ fn create_at(
     w: Wanted,
     place: Place,
 ) -> Result<Rep, NoMemory>
-    ensures ok { IfOk result (λ r. create_at s.old who w place ≡ (r, s.new)) }
+    ensures ok { IfOk result (λ r. create_at None s.old who w place ≡ (r, s.new)) }
     ensures err { OnErr result (s.new ≡ s.old) }
 {
     match place {
         Place::NoPath => Ok(of_status(Status::OBJECT_PATH_NOT_FOUND)),
-        Place::Missing(directory, name) => match refusal_of_missing(s, w, directory) {
-            Some(status) => Ok(of_status(status)),
-            None => make(alloc, s, who, w, directory, name),
-        },
-        Place::There(found) => match refusal_of_there(s, w, found) {
-            Some(status) => Ok(of_status(status)),
-            None => open_there(alloc, s, who, w, found),
-        },
+        Place::Missing(directory, name) => create_missing(alloc, s, who, w, directory, name),
+        Place::There(found) => create_there(alloc, s, who, w, found),
     }
 }
 
@@ -366,7 +483,7 @@ pub(crate) fn create(
     path: &Units,
     w: Wanted,
 ) -> Result<Rep, NoMemory>
-    ensures ok { IfOk result (λ r. create_of s.old who path.now w ≡ (r, s.new)) }
+    ensures ok { IfOk result (λ r. create_of None s.old who path.now w ≡ (r, s.new)) }
     ensures err { OnErr result (s.new ≡ s.old) }
 {
     if !is_disposition(w.disposition) {

@@ -1,7 +1,9 @@
 //! Leases, and what has to be broken.
 
-ghost use Rattle.std.specs.Prelude.{◌≡◌, ◌++◌, ◌∷◌, [], OnOk, OnErr};
+ghost use Rattle.std.specs.Prelude.{◌≡◌, ◌++◌, ◌∷◌, [], OnOk, OnErr, Some, map};
+ghost use Rattle.share_spec.specs.State.{has};
 ghost use Rattle.share_spec.specs.Close.{kept_leases};
+ghost use Rattle.share_spec.specs.Leases.{bits, lowered, is_lease_of, lease_of, is_taken, set_lease, with_lease};
 
 use crate::opens::{Open, has_open_of_key};
 use crate::request::Who;
@@ -66,6 +68,25 @@ impl LeaseList {
         Ok(())
     }
 
+    // Gives the lease of a client under a key this state, where one stands; else adds one on the node. For want of memory nothing is
+    // changed.
+    pub(crate) fn grant(&mut self, who: Who, key: Key, node: u64, state: u8) -> Result<(), NoMemory>
+        ensures ok { OnOk result (self.new ≡ with_lease who (Some key) node state self.old) }
+        ensures err { OnErr result (self.new ≡ self.old) }
+    {
+        if lease_of(self.as_slice(), who, key).is_some() {
+            set_in(&mut self.held, who, key, state);
+            return Ok(());
+        }
+        self.push(Lease {
+            who,
+            key,
+            node,
+            state,
+            asked: None,
+        })
+    }
+
     // Keeps the leases that some open has.
     pub(crate) fn keep(&mut self, opens: &[Open])
         ensures { self.new ≡ kept_leases opens.now self.old }
@@ -122,4 +143,78 @@ fn keep_held(leases: &mut Vec<Lease>, opens: &[Open])
     ensures { leases.new.items ≡ kept_leases opens.now leases.old.items }
 {
     leases.retain(|lease| has_open_of_key(opens, lease.who, lease.key));
+}
+
+// A set of the bits R, H and W.
+pub(crate) fn bits(r: bool, h: bool, w: bool) -> u8
+    ensures { result ≡ bits r h w }
+{
+    (if r { 1 } else { 0 }) + (if h { 2 } else { 0 }) + (if w { 4 } else { 0 })
+}
+
+// The set has one of these bits.
+pub(crate) fn holds(state: u8, gone: u8) -> bool
+    ensures { result ≡ has state gone }
+{
+    state & gone != 0
+}
+
+// The state that is left of a lease once these bits are gone.
+pub(crate) fn lowered(state: u8, gone: u8) -> u8
+    ensures { result ≡ lowered state gone }
+{
+    if holds(state, 1) && !holds(gone, 1) {
+        bits(
+            true,
+            holds(state, 2) && !holds(gone, 2),
+            holds(state, 4) && !holds(gone, 4),
+        )
+    } else {
+        0
+    }
+}
+
+// The lease is this client's under this key.
+pub(crate) fn is_lease_of(who: Who, key: Key, lease: &Lease) -> bool
+    ensures { result ≡ is_lease_of who key lease.now }
+{
+    lease.who.0 == who.0 && lease.key.0.as_slice() == key.0.as_slice()
+}
+
+// The lease of a client under a key.
+pub(crate) fn lease_of(leases: &[Lease], who: Who, key: Key) -> Option<Lease>
+    ensures { result ≡ lease_of leases.now who key }
+{
+    for lease in leases {
+        if is_lease_of(who, key, lease) {
+            return Some(*lease);
+        }
+    }
+    None
+}
+
+// A lease under the key is another client's.
+pub(crate) fn is_taken(leases: &[Lease], who: Who, key: Key) -> bool
+    ensures { result ≡ is_taken leases.now who key }
+{
+    leases.iter().any(|lease| lease.who.0 != who.0 && lease.key.0.as_slice() == key.0.as_slice())
+}
+
+// Gives each lease of a client under a key this state.
+#[tactic(auto, using(std::proofs::lemmas::List::Edits::map_over_more))]
+fn set_in(leases: &mut [Lease], who: Who, key: Key, state: u8)
+    ensures { leases.new ≡ map (set_lease who key state) leases.old }
+{
+    for one in leases.iter_mut() {
+        set_one(one, who, key, state);
+    }
+}
+
+// Gives this lease the state where it is the client's under the key.
+fn set_one(one: &mut Lease, who: Who, key: Key, state: u8)
+    ensures { one.new ≡ set_lease who key state one.old }
+{
+    if is_lease_of(who, key, one) {
+        one.state = state;
+    }
 }

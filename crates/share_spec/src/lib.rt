@@ -7,6 +7,7 @@ mod close;
 mod connection;
 mod create;
 mod entry;
+mod granting;
 mod lease;
 mod listing;
 mod lock;

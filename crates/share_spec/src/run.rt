@@ -27,7 +27,8 @@ pub fn step(alloc: Global, s: &mut Share, who: Who, r: &Req) -> Result<Rep, NoMe
             disposition,
             options,
             attributes,
-            ..
+            lease,
+            durable,
         } => {
             let wanted = Wanted {
                 access: *access,
@@ -35,6 +36,8 @@ pub fn step(alloc: Global, s: &mut Share, who: Who, r: &Req) -> Result<Rep, NoMe
                 disposition: *disposition,
                 options: *options,
                 attributes: *attributes,
+                lease: *lease,
+                durable: *durable,
             };
             create(alloc, s, who, path, wanted)
         }

@@ -4,4 +4,4 @@ use Rattle.share_spec.specs.Breaks.{needs_in}
 use Rattle.share_spec.proofs.breaks.needs_on.Given as goal
 
 abbrev pub invariant-loop-lease : goal.invariant-loop-lease
-invariant-loop-lease l = needs_in l.s l.w l.node l.s.leases ≡ l.needs ++ needs_in l.s l.w l.node (drop l.lease-index l.s.leases)
+invariant-loop-lease l = needs_in l.s l.who l.w l.node l.s.leases ≡ l.needs ++ needs_in l.s l.who l.w l.node (drop l.lease-index l.s.leases)

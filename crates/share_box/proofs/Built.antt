@@ -1,0 +1,117 @@
+-- What a message that waits asks for is a request that the share takes.
+use Rattle.std.proofs.Common.{◌≡◌, ◌∙◌, ℕ, ◌==◌, Bool, true, false, if◌then◌else◌, List, refl, subst, Result, Ok, Err, Option, Some, None}
+use Rattle.std.specs.Prelude.{is_some, slice_index}
+use Rattle.smb_base.specs.declared.names.Fid.{Fid}
+use Rattle.smb_le.specs.Numbers.{number_at}
+use Rattle.smb_head.specs.declared.command.TheConstants.{CREATE, CLOSE, QUERY_INFO}
+use Rattle.smb_head.specs.declared.head.Head.{Head}
+use Rattle.smb_head.specs.declared.head.HeadFault.{HeadFault}
+use Rattle.smb_head.specs.Header.{head_of}
+use Rattle.smb_field.specs.declared.field.BodyFault.{BodyFault}
+use Rattle.smb_body_b.specs.declared.contexts.ContextSet.{ContextSet}
+use Rattle.share_spec.specs.declared.connection.LastCreate.{LastCreate}
+use Rattle.share_spec.specs.declared.connection.LastCreate.TheVariants as last
+use Rattle.share_spec.specs.declared.connection.Sent.{Sent}
+use Rattle.share_spec.specs.declared.request.Req.{Req}
+use Rattle.share_spec.specs.declared.request.Req.TheVariants as req
+use Rattle.share_spec.specs.Reply.{map_fid}
+use Rattle.share_spec.specs.State.{has}
+use Rattle.share_spec.specs.Built.{is_built}
+use Rattle.fs_plain.specs.Wire.{has_body, bytes_at, units_in}
+use Rattle.fs_plain.specs.Requests.{WireRequest, fid_at, asked_lease, share_request, create_with, is_create, create_asked, close_asked, is_query, query_asked, is_aside, by_command, asked_with, wire_request}
+use Rattle.fs_plain.specs.World.{followed, is_creating, resolved, refused_before}
+use Rattle.share_box.specs.declared.serving.Plan.TheVariants as plan
+use Rattle.share_box.specs.Serving.{plan_by, planned, plan_of}
+
+-- a message asks for what the share takes
+abbrev pub IsBuiltIn : Option WireRequest → Type 0
+IsBuiltIn None = Unit {0}
+IsBuiltIn (Some WireRequest.Aside) = Unit {0}
+IsBuiltIn (Some (WireRequest.Share related r)) = is_built r ≡ true
+
+built_if : (t : Bool) (a b : Option WireRequest) → IsBuiltIn a → IsBuiltIn b → IsBuiltIn (if t then a else b)
+built_if true a b is is' = is
+built_if false a b is is' = is'
+
+built_given : (related : Bool) (r : Req) (t : Bool) → is_built r ≡ t → IsBuiltIn (if t then Some (WireRequest.Share related r) else None)
+built_given related r true is = is
+built_given related r false is = tt
+
+built_request : (related : Bool) (r : Req) → IsBuiltIn (share_request related r)
+built_request related r = built_given related r (is_built r) refl
+
+-- the CREATE that a message with these contexts is
+abbrev create_in : List ℕ → ContextSet → Req
+create_in message set = req.Create (units_in (bytes_at (number_at 2 108 message) (number_at 2 110 message) message)) (number_at 4 88 message)
+    (number_at 4 96 message) (number_at 4 100 message) (number_at 4 104 message) (number_at 4 92 message) (asked_lease (slice_index message 67) set.lease) set.durable
+
+built_create : (related : Bool) (message : List ℕ) (contexts : Result ContextSet BodyFault) → IsBuiltIn (create_with related message contexts)
+built_create related message (Err fault) = tt
+built_create related message (Ok set) = built_if (is_some set.reclaim) None (share_request related (create_in message set)) tt (built_request related (create_in message set))
+
+built_command : (command : ℕ) (related : Bool) (message : List ℕ) → IsBuiltIn (by_command command related message)
+built_command command related message =
+    built_if (command == CREATE) (create_asked related message) _ (built_if (is_create message) _ None (built_create related message _) tt)
+    (built_if (command == CLOSE) (close_asked related message) _ (built_if (has_body 24 message) (share_request related (req.Close (fid_at 72 message))) None (built_request related (req.Close (fid_at 72 message))) tt)
+    (built_if (command == QUERY_INFO) (query_asked related message) _ (built_if (is_query message) (share_request related (req.Query (fid_at 88 message))) None (built_request related (req.Query (fid_at 88 message))) tt)
+    (built_if (is_aside command message) (Some WireRequest.Aside) None tt tt)))
+
+built_with : (head : Result Head HeadFault) (message : List ℕ) → IsBuiltIn (asked_with head message)
+built_with (Err fault) message = tt
+built_with (Ok head) message = built_if (has head.flags.0 1) None _ tt (built_command head.command (has head.flags.0 4) message)
+
+pub asked_built : (message : List ℕ) → IsBuiltIn (wire_request message)
+unfolding wire_request
+asked_built message = built_with (head_of message) message
+
+-- a related request stays what it is, but for its file id
+abbrev pub IsAlike : Req → Req → Type 0
+IsAlike r' r = (is_creating r' ≡ is_creating r) × (is_built r' ≡ is_built r)
+
+with_fid_alike : (fid : Fid) (r : Req) → IsAlike (map_fid (λ own. fid) r) r
+with_fid_alike fid (req.Create path access share disposition options attributes lease durable) = (refl, refl)
+with_fid_alike fid (req.Close a) = (refl, refl)
+with_fid_alike fid (req.Flush a) = (refl, refl)
+with_fid_alike fid (req.Query a) = (refl, refl)
+with_fid_alike fid (req.Room a) = (refl, refl)
+with_fid_alike fid (req.Read a b c) = (refl, refl)
+with_fid_alike fid (req.Write a b c) = (refl, refl)
+with_fid_alike fid (req.Lock a b c d) = (refl, refl)
+with_fid_alike fid (req.Unlock a b c) = (refl, refl)
+with_fid_alike fid (req.List a b c) = (refl, refl)
+with_fid_alike fid (req.SetBasic a b) = (refl, refl)
+with_fid_alike fid (req.SetEnd a b) = (refl, refl)
+with_fid_alike fid (req.SetPending a b) = (refl, refl)
+with_fid_alike fid (req.Rename a b c) = (refl, refl)
+with_fid_alike fid (req.LinkTo a b c) = (refl, refl)
+with_fid_alike fid (req.Ack a b) = (refl, refl)
+with_fid_alike fid (req.Reclaim a b) = (refl, refl)
+
+followed_alike : (before : LastCreate) (r : Req) → IsAlike (followed before r) r
+followed_alike last.Nothing r = (refl, refl)
+followed_alike (last.Opened fid) r = with_fid_alike fid r
+followed_alike (last.Refused status) r = (refl, refl)
+
+pub resolved_alike : (related : Bool) (before : LastCreate) (r : Req) → IsAlike (resolved related before r) r
+resolved_alike true before r = followed_alike before r
+resolved_alike false before r = (refl, refl)
+
+pub resolved_built : (related : Bool) (before : LastCreate) (r : Req) → is_built r ≡ true → is_built (resolved related before r) ≡ true
+resolved_built related before r built = (resolved_alike related before r).1 ∙ built
+
+done_built : (refusal : Option ℕ) (q r : Req) → is_built q ≡ true → Some (plan_by refusal q) ≡ Some (plan.Do r) → is_built r ≡ true
+done_built None q r built h =
+    let same : q ≡ r = cc in
+    subst (λ (x : Req). is_built x ≡ true) same built
+done_built (Some status) q r built h = absurd (cc h)
+
+planned_built : (before : LastCreate) (a : Option WireRequest) (r : Req) → IsBuiltIn a → planned before a ≡ Some (plan.Do r) → is_built r ≡ true
+planned_built before None r built h = absurd (cc h)
+planned_built before (Some WireRequest.Aside) r built h = absurd (cc h)
+planned_built before (Some (WireRequest.Share related q)) r built h =
+    done_built (refused_before related before q) (resolved related before q) r (resolved_built related before q built) h
+
+-- so is what is to be done on the share for one
+pub plan_built : (one : Sent) (r : Req) → plan_of one ≡ Some (plan.Do r) → is_built r ≡ true
+unfolding plan_of
+plan_built one r h = planned_built one.last_create (wire_request one.message) r (asked_built one.message) h
