@@ -8,8 +8,7 @@ use Rattle.share_spec.specs.declared.connection.Sent.{Sent}
 use Rattle.share_spec.specs.declared.connection.Owed.{Owed}
 use Rattle.share_spec.specs.declared.connection.Owed.TheVariants as owed
 use Rattle.share_spec.specs.declared.request.Rep.{Rep}
-use Rattle.share_spec.specs.Sent.{sent_but}
-use Rattle.fs_plain.specs.World.{sent_with}
+use Rattle.share_spec.specs.Sent.{sent_but, sent_with}
 use Rattle.fs_plain.specs.View.{Names, Flight, flight_with, flights_but, left, IsFor, IsOf, Sound, calm, waits, reply_for}
 
 some_calm : (mid : Mid) (x : Sent) (t : Bool) (other other' : Option Sent) → option_map calm other ≡ other'

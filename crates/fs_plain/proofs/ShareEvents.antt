@@ -14,12 +14,13 @@ use Rattle.share_spec.specs.declared.opens.Open.{Open}
 use Rattle.share_spec.specs.declared.share.Share.{Share}
 use Rattle.share_spec.specs.Close.{is_key_of}
 use Rattle.share_spec.specs.Cut.{all_closed}
+use Rattle.share_spec.specs.Sent.{put_off, sent_with}
 use Rattle.smb_link.specs.declared.event.Event.{Event}
 use Rattle.smb_link.specs.declared.event.Event.TheVariants as event
 use Rattle.smb_link.specs.Story.{is_of_share}
 use Rattle.smb_link.specs.Program.{Program, Ask, Look, Say}
 use Rattle.fs_plain.specs.Requests.{WireRequest, wire_request}
-use Rattle.fs_plain.specs.World.{sent_with, after_taking, after_took, after_took_of, after_pend_of, breakable, put_off, happens}
+use Rattle.fs_plain.specs.World.{after_taking, after_took, after_took_of, after_pend_of, breakable, happens}
 use Rattle.fs_plain.specs.Honest.{MayTake, MayPend, MayBreak, MayHappen}
 use Rattle.fs_plain.specs.Replay.{Run, Owner, Replay, owner_of}
 use Rattle.fs_plain.specs.Taken.{after_taken, is_right_taken, after_sent_taken, is_right_sent, after_asked, is_right_asked}

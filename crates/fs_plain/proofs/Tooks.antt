@@ -16,11 +16,11 @@ use Rattle.share_spec.specs.declared.share.Share.{Share}
 use Rattle.share_spec.specs.Built.{is_built}
 use Rattle.share_spec.specs.Step.{step_of}
 use Rattle.share_spec.specs.PlainShare.{plain_step, plain_request, shown}
-use Rattle.share_spec.specs.Sent.{behind_create, sent_but}
+use Rattle.share_spec.specs.Sent.{behind_create, put_off, sent_but}
 use Rattle.smb_link.specs.Program.{Wish, Open as Opening, Query, Close, Program, Ask, settled}
 use Rattle.fs_plain.specs.Requests.{WireRequest}
 use Rattle.fs_plain.specs.Answered.{odd_unless}
-use Rattle.fs_plain.specs.World.{us, put_off, is_creating, after_done, after_aside, done_of, choice_now, came_to}
+use Rattle.fs_plain.specs.World.{us, is_creating, after_done, after_aside, done_of, choice_now, came_to}
 use Rattle.fs_plain.specs.Replay.{Running, Owner, Replay, running_with, with_running, owner_of}
 use Rattle.fs_plain.specs.Taken.{plain_fid, wish_of, with_opened, is_wished, after_wish_done, after_next, after_owned, is_right_owned, is_next, after_asked, is_right_asked, after_request, is_right_request}
 use Rattle.fs_plain.specs.View.{Item, Flight, View, same_flying, item_with, flight_with, flights_but, left, is_of_call, is_owned_by, IsFor, IsOf, Sound, calm, waits, reply_for, reply_of_flying, rest_after, opened_after, ran}

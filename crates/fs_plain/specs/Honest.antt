@@ -14,11 +14,12 @@ use Rattle.share_spec.specs.State.{fresh_share}
 use Rattle.share_spec.specs.Built.{is_built}
 use Rattle.share_spec.specs.Breaks.{needs_of}
 use Rattle.share_spec.specs.Grants.{is_allowed}
+use Rattle.share_spec.specs.Sent.{sent_with}
 use Rattle.smb_link.specs.declared.event.Event.{Event}
 use Rattle.smb_link.specs.declared.event.Event.TheVariants as event
 use Rattle.fs_plain.specs.Requests.{WireRequest, wire_request}
 use Rattle.fs_plain.specs.Replies.{Pays}
-use Rattle.fs_plain.specs.World.{us, sent_with, is_first_of_frame, resolved, refused_before, choice_now, act_of, grant_in, breakable, messages_got, happens}
+use Rattle.fs_plain.specs.World.{us, is_first_of_frame, resolved, refused_before, choice_now, act_of, grant_in, breakable, messages_got, happens}
 use Rattle.fs_plain.specs.Ahead.{ahead}
 
 -- a request of this client waits for no break, and what the share chooses there is allowed; one that the CREATE before it refuses asks

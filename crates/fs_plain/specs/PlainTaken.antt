@@ -11,9 +11,10 @@ use Rattle.share_spec.specs.declared.share.Share.{Share}
 use Rattle.share_spec.specs.Reply.{fid_of}
 use Rattle.share_spec.specs.Close.{open_of}
 use Rattle.share_spec.specs.PlainShare.{plain_step, shown}
+use Rattle.share_spec.specs.Sent.{sent_with}
 use Rattle.smb_link.specs.Program.{Wish, Program, Known, Ask, Look, Say, settled}
 use Rattle.fs_plain.specs.Requests.{WireRequest, wire_request}
-use Rattle.fs_plain.specs.World.{us, sent_with, resolved, refused_before, done_of, choice_now}
+use Rattle.fs_plain.specs.World.{us, resolved, refused_before, done_of, choice_now}
 use Rattle.fs_plain.specs.Replay.{Owner, owner_of}
 use Rattle.fs_plain.specs.Taken.{is_next}
 use Rattle.fs_plain.specs.Paired.{Pair, pair_of_real, pair_given, open_given}

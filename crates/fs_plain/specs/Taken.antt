@@ -14,9 +14,10 @@ use Rattle.share_spec.specs.State.{has}
 use Rattle.share_spec.specs.Reply.{fid_of}
 use Rattle.share_spec.specs.Close.{open_of}
 use Rattle.share_spec.specs.PlainShare.{plain_step, shown}
+use Rattle.share_spec.specs.Sent.{sent_with}
 use Rattle.smb_link.specs.Program.{File, Own, Named, Wish, Open as Opening, Query, Close, Program, Known, Ask, Look, Say, settled}
 use Rattle.fs_plain.specs.Requests.{WireRequest, wire_request}
-use Rattle.fs_plain.specs.World.{us, sent_with, resolved, refused_before, done_of, choice_now}
+use Rattle.fs_plain.specs.World.{us, resolved, refused_before, done_of, choice_now}
 use Rattle.fs_plain.specs.Replay.{Running, Owner, Replay, plain_of, opened_number, new_pair, running_with, with_running, owner_of}
 
 -- the plain open of a file of a call; 0 is none

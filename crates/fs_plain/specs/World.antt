@@ -27,7 +27,7 @@ use Rattle.share_spec.specs.Reply.{of_status, map_fid}
 use Rattle.share_spec.specs.Step.{step_of}
 use Rattle.share_spec.specs.Close.{is_key_of}
 use Rattle.share_spec.specs.Cut.{after_cut, after_join, after_drop}
-use Rattle.share_spec.specs.Sent.{behind_create, sent_but}
+use Rattle.share_spec.specs.Sent.{behind_create, put_off, sent_but, sent_with}
 use Rattle.smb_link.specs.declared.event.Event.{Event}
 use Rattle.smb_link.specs.declared.event.Event.TheVariants as event
 use Rattle.fs_plain.specs.Requests.{WireRequest, wire_request}
@@ -70,11 +70,6 @@ requests_in frame = requests_among (first_mid (messages_of (first_of frame))) (m
 -- a frame is sent: its requests wait, where a connection stands
 abbrev pub after_sent : List ℕ → Share → Share
 after_sent frame s = if s.connected then record s { sent = s.sent ++ requests_in frame } else s
-
--- the waiting request with an id
-abbrev pub sent_with : Mid → List Sent → Option Sent
-sent_with mid [] = None
-sent_with mid (x ∷ xs) = if x.mid.0 == mid.0 then Some x else sent_with mid xs
 
 -- a request is the first of its frame that waits
 abbrev pub is_first_of_frame : List Sent → Sent → Bool
@@ -160,10 +155,6 @@ after_took_of (Some x) s = after_taking (wire_request x.message) x s
 -- a request is taken
 abbrev pub after_took : Mid → Share → Share
 after_took mid s = after_took_of (sent_with mid s.sent) s
-
--- a request, put off where it has this id
-abbrev pub put_off : Mid → Sent → Sent
-put_off mid x = if x.mid.0 == mid.0 then record x { pended = true } else x
 
 -- a request is put off: an interim reply is owed
 abbrev pub after_pend_of : Option Sent → Mid → Share → Share

@@ -31,12 +31,13 @@ use Rattle.share_spec.specs.Close.{is_key_of, closed}
 use Rattle.share_spec.specs.Cut.{all_closed}
 use Rattle.share_spec.specs.Step.{step_of}
 use Rattle.share_spec.specs.Built.{is_built}
+use Rattle.share_spec.specs.Sent.{sent_with}
 use Rattle.smb_link.specs.declared.event.Event.{Event}
 use Rattle.smb_link.specs.declared.event.Event.TheVariants as event
 use Rattle.fs_plain.specs.Wire.{has_body}
 use Rattle.fs_plain.specs.Requests.{WireRequest, wire_request}
 use Rattle.fs_plain.specs.Replies.{Pays, command_of, answers, reply_of, reply_by_status, reply_with, reply_in, opened_in, is_interim, interim_with, is_interim_of, is_aside_by_status, aside_with, is_aside_reply, notice_with, IsNotice}
-use Rattle.fs_plain.specs.World.{us, grant_in, requests_in, messages_in, messages_got, sent_with, resolved, refused_before, unless_refused_before, choice_now, after_sent, after_done, after_taking, after_took_of, after_pend_of, notices, breakable, happens}
+use Rattle.fs_plain.specs.World.{us, grant_in, requests_in, messages_in, messages_got, resolved, refused_before, unless_refused_before, choice_now, after_sent, after_done, after_taking, after_took_of, after_pend_of, notices, breakable, happens}
 use Rattle.fs_plain.specs.Ahead.{still_to_come, is_final, choice_of, is_opened, choice_among, ahead}
 use Rattle.fs_plain.specs.Honest.{ArePaid, HonestFrom, IsHonest}
 use Rattle.fs_plain.specs.Moves.{at_start}

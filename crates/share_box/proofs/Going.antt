@@ -1,11 +1,14 @@
 -- A box that goes on, and then goes on further.
-use Rattle.std.proofs.Common.{◌≡◌, ◌∙◌, ℕ, Bool, true, false, List, [], ◌∷◌, ◌++◌, Result, Ok, Err, OnOk, OnErr, refl, sym, ap, append_assoc, rules}
+use Rattle.std.proofs.Common.{◌≡◌, ◌∙◌, ℕ, Bool, true, false, List, [], ◌∷◌, ◌++◌, Some, Result, Ok, Err, OnOk, OnErr, refl, sym, ap, append_assoc, rules}
 use Rattle.std.specs.Prelude.{◌&&◌, if◌then◌else◌}
 use Rattle.std.specs.List.{list_all}
+use Rattle.smb_base.specs.declared.names.Mid.{Mid}
 use Rattle.smb_link.specs.declared.event.Event.{Event}
+use Rattle.smb_link.specs.declared.event.Event.TheVariants as event
 use Rattle.smb_link.specs.Count.{counted}
 use Rattle.smb_link.specs.Story.{is_of_share}
 use Rattle.share_box.specs.declared.state.State.{State}
+use Rattle.share_box.specs.Turns.{delayed_by}
 use Rattle.share_box.specs.Calls.{Goes, GoesOn, Tells}
 
 all_one : (b some more : Bool) → (b && some) ≡ true → (some ≡ true → more ≡ true) → (b && more) ≡ true
@@ -66,3 +69,12 @@ tells_none old new same = record { share = []; theirs = refl; story = same ∙ s
 pub goes_by : (old new : State) → Tells old.story new.story → new.share.connected ≡ old.share.connected → new.dead ≡ old.dead
     → new.connect_faults ≡ old.connect_faults → new.cuts ≡ old.cuts → new.quiets ≡ old.quiets → GoesOn old new
 goes_by old new told connected dead faults cuts quiets = goes_told old new told.share told.theirs told.story connected dead faults cuts quiets
+
+-- a request is put off, or memory runs out before that is told
+pub delay_goes : {A E : Type 0} (result : Result A E) (old new : State) (mid : Mid) (frame : List ℕ)
+    → OnOk result (new ≡ delayed_by (Some frame) mid old) → OnErr result (new ≡ record old { waiting = new.waiting }) → GoesOn old new
+delay_goes (Ok x) old new mid frame ok err =
+    rw ok (goes_told old (delayed_by (Some frame) mid old) (event.Pend mid ∷ []) refl refl refl refl refl refl refl)
+delay_goes (Err e) old new mid frame ok err =
+    goes_told old new [] refl (ap (λ (b : State). b.story) err ∙ sym (nothing_more old.story)) (ap (λ (b : State). b.share.connected) err)
+    (ap (λ (b : State). b.dead) err) (ap (λ (b : State). b.connect_faults) err) (ap (λ (b : State). b.cuts) err) (ap (λ (b : State). b.quiets) err)

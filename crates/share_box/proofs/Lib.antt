@@ -2,6 +2,7 @@ pub mod SameShare
 pub mod Streams
 pub mod Built
 pub mod Choices
+pub mod Ordering
 pub mod Mirrors
 pub mod Telling
 pub mod Written

@@ -1,6 +1,6 @@
 -- The share that a story tells of stays the one that a box has, event by event.
 use Rattle.std.proofs.Common.{◌≡◌, ◌∙◌, ℕ, ◌==◌, ◌&&◌, Bool, true, false, not, if◌then◌else◌, List, [], ◌∷◌, ◌++◌, take, drop, map, refl, sym, ap, subst, append_assoc, Result, Ok, Err, Option, Some, None, rules}
-use Rattle.std.specs.Prelude.{is_none, filter}
+use Rattle.std.specs.Prelude.{is_none, filter, is_some, slice_index}
 use Rattle.std.specs.List.{AllByRecursion}
 use Rattle.std.proofs.lemmas.List.{take-append-drop}
 use Rattle.smb_base.specs.declared.names.Mid.{Mid}
@@ -19,12 +19,13 @@ use Rattle.share_spec.specs.declared.share.Share.{Share}
 use Rattle.share_spec.specs.Reply.{of_status}
 use Rattle.share_spec.specs.Built.{is_built}
 use Rattle.share_spec.specs.Step.{step_of}
-use Rattle.share_spec.specs.Sent.{sent_but, behind_create}
+use Rattle.share_spec.specs.Sent.{behind_create, put_off, sent_but, sent_with}
 use Rattle.share_spec.specs.Cut.{ends_with, after_cut, after_join}
 use Rattle.smb_link.specs.declared.event.Event.TheVariants as event
-use Rattle.fs_plain.specs.Requests.{WireRequest, wire_request}
-use Rattle.fs_plain.specs.World.{us, grant_in, waiting, messages_of, first_mid, requests_among, requests_in, after_sent, sent_with, is_first_of_frame, is_creating, refusal_before, resolved, refused_before, unless_refused_before, came_to, after_create, choices_left, choice_now, after_done, after_aside, after_taking, after_took_of, act_of, after_got, happens}
-use Rattle.fs_plain.specs.Honest.{MayBeDone, MayBeTakenAs, MayTake, MayAct, MayGet, MayHappen}
+use Rattle.fs_plain.specs.Requests.{WireRequest, wire_request, fid_at, asked_lease, share_request, create_with, is_create, create_asked, close_asked, is_query, query_asked, is_aside, by_command, asked_with}
+use Rattle.fs_plain.specs.World.{us, grant_in, waiting, messages_of, first_mid, requests_among, requests_in, after_sent, sent_with, is_first_of_frame, is_creating, refusal_before, resolved, refused_before, unless_refused_before, came_to, after_create, choices_left, choice_now, after_done, after_aside, after_taking, after_took_of, act_of, after_got, happens, followed, after_pend_of}
+use Rattle.fs_plain.specs.Honest.{MayBeDone, MayBeTakenAs, MayTake, MayAct, MayGet, MayHappen, MayPend}
+use Rattle.fs_plain.specs.Wire.{has_body, bytes_at, units_in}
 use Rattle.fs_plain.specs.Related.{bare}
 use Rattle.fs_plain.proofs.PlainTree.{bare_of}
 use Rattle.fs_plain.proofs.Steps.{Connection, step_connection, step_leases}
@@ -39,6 +40,7 @@ use Rattle.share_box.proofs.Grants.{create_outcome}
 use Rattle.share_box.proofs.Streams.{Front, front, may_be_held, one_more_payment}
 use Rattle.share_box.proofs.Choices.{every_both, closed_connection}
 use Rattle.share_box.proofs.Built.{IsBuiltIn, IsAlike, asked_built, resolved_alike, resolved_built}
+use Rattle.share_box.proofs.Ordering.{found_own, found_holds}
 
 -- a frame is sent: its messages that ask for something wait
 request_if : (frame : Mid) (message : List ℕ) (none : Bool) (others : List Sent) → is_none (wire_request message) ≡ none → AllByRecursion IsRequest others
@@ -164,29 +166,16 @@ not_creating true false refusal status is = refl
 not_creating false creating refusal status is = absurd (cc is)
 
 -- a request that is taken waits no longer
-abbrev without : Sent → List Sent → Share → Share
-without one others own = record own { sent = sent_but one.mid others }
+abbrev without : Sent → Share → Share
+without one own = record own { sent = sent_but one.mid own.sent }
 
-itself : (n : ℕ) → (n == n) ≡ true
-itself n = search rules
+-- a request is the one of its id, and the first of its frame
+pub record IsTaken (one : Sent) (sent : List Sent) : Type 0 where
+  pub found : sent_with one.mid sent ≡ Some one
+  pub first : is_first_of_frame sent one ≡ true
 
-but_first : (one : Sent) (others sent : List Sent) → sent ≡ one ∷ others → sent_but one.mid sent ≡ sent_but one.mid others
-but_first one others sent is =
-    ap (sent_but one.mid) is
-    ∙ ap (λ (t : Bool). if not t then one ∷ sent_but one.mid others else sent_but one.mid others) (itself one.mid.0)
-
-found_first : (one : Sent) (others sent : List Sent) → sent ≡ one ∷ others → sent_with one.mid sent ≡ Some one
-found_first one others sent is =
-    ap (sent_with one.mid) is ∙ ap (λ (t : Bool). if t then Some one else sent_with one.mid others) (itself one.mid.0)
-
-is_first : (one : Sent) (others sent : List Sent) → sent ≡ one ∷ others → is_first_of_frame sent one ≡ true
-is_first one others sent is =
-    ap (λ (l : List Sent). is_first_of_frame l one) is
-    ∙ ap (λ (t : Bool). if t then one.mid.0 == one.mid.0 else is_first_of_frame others one) (itself one.frame.0) ∙ itself one.mid.0
-
-left_requests : (one : Sent) (others sent : List Sent) → sent ≡ one ∷ others → AllByRecursion IsRequest sent → AllByRecursion IsRequest (sent_but one.mid others)
-left_requests one others sent is all =
-    every-filter IsRequest (λ x. not (x.mid.0 == one.mid.0)) others (subst (AllByRecursion IsRequest) is all).1
+left_requests : (one : Sent) (sent : List Sent) → AllByRecursion IsRequest sent → AllByRecursion IsRequest (sent_but one.mid sent)
+left_requests one sent all = every-filter IsRequest (λ x. not (x.mid.0 == one.mid.0)) sent all
 
 behind_request : (frame : Mid) (reply : Rep) (x : Sent) (t : Bool) → is_outcome (came_to reply reply.body) ≡ true → IsRequest x
     → IsRequest (if t then record x { last_create = came_to reply reply.body } else x)
@@ -241,59 +230,59 @@ takes_mirrors told after own o waits reply takes begun paid choices pays = recor
   choices = subst AreBare (sym takes.grants) (left_bare told.grants choices);
 }
 
-aside_takes : (told own : Share) (waits : List ℕ) (one : Sent) (others : List Sent) → Mirrors told own waits → own.sent ≡ one ∷ others
-    → Takes told (after_aside one told) (without one others own) (owed.Aside one.mid one.message)
-aside_takes told own waits one others old is = record {
+aside_takes : (told own : Share) (waits : List ℕ) (one : Sent) → Mirrors told own waits → IsTaken one own.sent
+    → Takes told (after_aside one told) (without one own) (owed.Aside one.mid one.message)
+aside_takes told own waits one old is = record {
   tree = old.tree;
   leases = old.leases;
   own_leases = old.own_leases;
   connected = old.connected;
-  sent = but_first one others told.sent (old.sent ∙ is);
-  requests = left_requests one others own.sent is old.requests;
+  sent = ap (sent_but one.mid) old.sent;
+  requests = left_requests one own.sent old.requests;
   held = refl;
   owed = refl;
   grants = refl;
 }
 
-refused_takes : (told own : Share) (waits : List ℕ) (one : Sent) (others : List Sent) (r : Req) (status : ℕ) → Mirrors told own waits → own.sent ≡ one ∷ others
-    → is_creating r ≡ false → Takes told (after_done one r (of_status status, told)) (without one others own) (owed.Reply one.mid one.message (of_status status))
-refused_takes told own waits one others r status old is plain = record {
+refused_takes : (told own : Share) (waits : List ℕ) (one : Sent) (r : Req) (status : ℕ) → Mirrors told own waits → IsTaken one own.sent
+    → is_creating r ≡ false → Takes told (after_done one r (of_status status, told)) (without one own) (owed.Reply one.mid one.message (of_status status))
+refused_takes told own waits one r status old is plain = record {
   tree = old.tree;
   leases = old.leases;
   own_leases = old.own_leases;
   connected = old.connected;
   sent = ap (λ (t : Bool). if t then map (behind_create one.frame (came_to (of_status status) (of_status status).body)) (sent_but one.mid told.sent) else sent_but one.mid told.sent) plain
-      ∙ but_first one others told.sent (old.sent ∙ is);
-  requests = left_requests one others own.sent is old.requests;
+      ∙ ap (sent_but one.mid) old.sent;
+  requests = left_requests one own.sent old.requests;
   held = refl;
   owed = refl;
   grants = refl;
 }
 
-step_takes : (told own : Share) (waits : List ℕ) (one : Sent) (others : List Sent) (r r' : Req) → Mirrors told own waits → own.sent ≡ one ∷ others
+step_takes : (told own : Share) (waits : List ℕ) (one : Sent) (r r' : Req) → Mirrors told own waits → IsTaken one own.sent
     → is_creating r' ≡ is_creating r → is_built r' ≡ true
     → Takes told (after_done one r (step_of (choice_now told.grants) told us r'))
-    (stepped one.frame r' (step_of None (without one others own) us r')).1
-    (owed.Reply one.mid one.message (step_of None (without one others own) us r').0)
-step_takes told own waits one others r r' old is creating built =
+    (stepped one.frame r' (step_of None (without one own) us r')).1
+    (owed.Reply one.mid one.message (step_of None (without one own) us r').0)
+step_takes told own waits one r r' old is creating built =
     let done : Rep × Share = step_of (choice_now told.grants) told us r' in
-    let done' : Rep × Share = step_of None (without one others own) us r' in
-    let same : bare_of done ≡ bare_of done' = step_same (choice_now told.grants) told (without one others own) us r' old.tree built in
+    let done' : Rep × Share = step_of None (without one own) us r' in
+    let same : bare_of done ≡ bare_of done' = step_same (choice_now told.grants) told (without one own) us r' old.tree built in
     let reply : done.0 ≡ done'.0 = ap (λ (d : Rep × Share). d.0) same in
     let leaves = step_connection (choice_now told.grants) told us r' in
-    let leaves' = step_connection None (without one others own) us r' in
+    let leaves' = step_connection None (without one own) us r' in
     let sent : sent_but one.mid done.1.sent ≡ done'.1.sent =
-    ap (λ (c : Connection). sent_but one.mid c.sent) leaves ∙ but_first one others told.sent (old.sent ∙ is) ∙ sym (ap (λ (c : Connection). c.sent) leaves') in
+    ap (λ (c : Connection). sent_but one.mid c.sent) leaves ∙ ap (sent_but one.mid) old.sent ∙ sym (ap (λ (c : Connection). c.sent) leaves') in
     record {
       tree = ap (λ (d : Rep × Share). d.1) same;
       leases = step_leases (choice_now told.grants) told us r' built old.leases;
-      own_leases = step_leases None (without one others own) us r' built old.own_leases;
+      own_leases = step_leases None (without one own) us r' built old.own_leases;
       connected = ap (λ (c : Connection). c.connected) leaves ∙ old.connected ∙ sym (ap (λ (c : Connection). c.connected) leaves');
       sent = ap (λ (t : Bool). if t then map (behind_create one.frame (came_to done.0 done.0.body)) (sent_but one.mid done.1.sent) else sent_but one.mid done.1.sent) (sym creating)
           ∙ ap (λ (l : List Sent). after_create r' one.frame done.0 l) sent
           ∙ ap (λ (d : Rep). after_create r' one.frame d done'.1.sent) reply;
-      requests = created_requests (is_creating r') one.frame done'.0 done'.1.sent (create_outcome (without one others own) us r')
-          (subst (λ (c : Connection). AllByRecursion IsRequest c.sent) (sym leaves') (left_requests one others own.sent is old.requests));
+      requests = created_requests (is_creating r') one.frame done'.0 done'.1.sent (create_outcome (without one own) us r')
+          (subst (λ (c : Connection). AllByRecursion IsRequest c.sent) (sym leaves') (left_requests one own.sent old.requests));
       held = ap (λ (c : Connection). c.held) leaves;
       owed = ap (λ (c : Connection). c.owed ++ owed.Reply one.mid one.message done.0 ∷ []) leaves
           ∙ ap (λ (d : Rep). told.owed ++ owed.Reply one.mid one.message d ∷ []) reply;
@@ -314,47 +303,91 @@ may_be_taken told own waits before (Some WireRequest.Aside) old asks built = tt
 may_be_taken told own waits before (Some (WireRequest.Share related r)) old asks built =
     may_share told own waits (resolved related before r) (refused_before related before r) (resolved_built related before r built) old
 
--- the oldest request that waits may be taken
-pub may_take : (told own : Share) (waits : List ℕ) (one : Sent) (others : List Sent) → Mirrors told own waits → own.sent ≡ one ∷ others
+-- the first request of a frame may be taken
+pub may_take : (told own : Share) (waits : List ℕ) (one : Sent) → Mirrors told own waits → IsTaken one own.sent
     → MayHappen told (event.Took one.mid)
-may_take told own waits one others old is =
-    let request : IsRequest one = (subst (AllByRecursion IsRequest) is old.requests).0 in
-    subst (λ (found : Option Sent). MayTake found told) (sym (found_first one others told.sent (old.sent ∙ is)))
-    (is_first one others told.sent (old.sent ∙ is), may_be_taken told own waits one.last_create (wire_request one.message) old request.asks (asked_built one.message))
+may_take told own waits one old is =
+    let request : IsRequest one = found_holds IsRequest one.mid own.sent one old.requests is.found in
+    subst (λ (found : Option Sent). MayTake found told) (sym (ap (sent_with one.mid) old.sent ∙ is.found))
+    (ap (λ (l : List Sent). is_first_of_frame l one) old.sent ∙ is.first, may_be_taken told own waits one.last_create (wire_request one.message) old request.asks (asked_built one.message))
 
 -- what comes of it
-sharing : (told own : Share) (b : State) (one : Sent) (others : List Sent) (r r' : Req) (refusal : Option ℕ) → Mirrors told own b.waiting → own.sent ≡ one ∷ others
+sharing : (told own : Share) (b : State) (one : Sent) (r r' : Req) (refusal : Option ℕ) → Mirrors told own b.waiting → IsTaken one own.sent
     → IsProper one → ((status : ℕ) → refusal ≡ Some status → is_creating r ≡ false) → is_creating r' ≡ is_creating r → is_built r' ≡ true
-    → PaysAs (Some (plan_by refusal r')) one (record b { share = without one others own })
+    → PaysAs (Some (plan_by refusal r')) one (record b { share = without one own })
     → Mirrors (after_done one r (unless_refused_before refusal told (step_of (choice_now told.grants) told us r')))
-    (answered_as (Some (plan_by refusal r')) one (record b { share = without one others own })).share
-    (answered_as (Some (plan_by refusal r')) one (record b { share = without one others own })).waiting
-sharing told own b one others r r' None old is proper plain creating built pays =
-    takes_mirrors told _ _ _ b.waiting _ (step_takes told own b.waiting one others r r' old is creating built) old.begun old.paid old.choices (pays proper)
-sharing told own b one others r r' (Some status) old is proper plain creating built pays =
-    takes_mirrors told _ _ _ b.waiting _ (refused_takes told own b.waiting one others r status old is (plain status refl)) old.begun old.paid old.choices (pays proper)
+    (answered_as (Some (plan_by refusal r')) one (record b { share = without one own })).share
+    (answered_as (Some (plan_by refusal r')) one (record b { share = without one own })).waiting
+sharing told own b one r r' None old is proper plain creating built pays =
+    takes_mirrors told _ _ _ b.waiting _ (step_takes told own b.waiting one r r' old is creating built) old.begun old.paid old.choices (pays proper)
+sharing told own b one r r' (Some status) old is proper plain creating built pays =
+    takes_mirrors told _ _ _ b.waiting _ (refused_takes told own b.waiting one r status old is (plain status refl)) old.begun old.paid old.choices (pays proper)
 
-taking : (told own : Share) (b : State) (one : Sent) (others : List Sent) (a : Option WireRequest) → Mirrors told own b.waiting → own.sent ≡ one ∷ others
-    → IsProper one → is_none a ≡ false → IsBuiltIn a → PaysAs (planned one.last_create a) one (record b { share = without one others own })
-    → Mirrors (after_taking a one told) (answered_as (planned one.last_create a) one (record b { share = without one others own })).share
-    (answered_as (planned one.last_create a) one (record b { share = without one others own })).waiting
-taking told own b one others None old is proper asks built pays = absurd (cc asks)
-taking told own b one others (Some WireRequest.Aside) old is proper asks built pays =
-    takes_mirrors told _ _ _ b.waiting _ (aside_takes told own b.waiting one others old is) old.begun old.paid old.choices (pays proper)
-taking told own b one others (Some (WireRequest.Share related r)) old is proper asks built pays =
+taking : (told own : Share) (b : State) (one : Sent) (a : Option WireRequest) → Mirrors told own b.waiting → IsTaken one own.sent
+    → IsProper one → is_none a ≡ false → IsBuiltIn a → PaysAs (planned one.last_create a) one (record b { share = without one own })
+    → Mirrors (after_taking a one told) (answered_as (planned one.last_create a) one (record b { share = without one own })).share
+    (answered_as (planned one.last_create a) one (record b { share = without one own })).waiting
+taking told own b one None old is proper asks built pays = absurd (cc asks)
+taking told own b one (Some WireRequest.Aside) old is proper asks built pays =
+    takes_mirrors told _ _ _ b.waiting _ (aside_takes told own b.waiting one old is) old.begun old.paid old.choices (pays proper)
+taking told own b one (Some (WireRequest.Share related r)) old is proper asks built pays =
     let alike : IsAlike (resolved related one.last_create r) r = resolved_alike related one.last_create r in
-    sharing told own b one others r (resolved related one.last_create r) (refused_before related one.last_create r) old is proper
+    sharing told own b one r (resolved related one.last_create r) (refused_before related one.last_create r) old is proper
     (not_creating related (is_creating r) (refusal_before one.last_create)) alike.0 (alike.1 ∙ built) pays
 
--- the oldest request that waits is taken
-pub took_mirrors : (told own : Share) (b : State) (one : Sent) (others : List Sent) → Mirrors told own b.waiting → own.sent ≡ one ∷ others
-    → PaysAs (plan_of one) one (record b { share = without one others own })
-    → Mirrors (happens told (event.Took one.mid)) (answered_as (plan_of one) one (record b { share = without one others own })).share
-    (answered_as (plan_of one) one (record b { share = without one others own })).waiting
+-- the first request of a frame is taken
+pub took_mirrors : (told own : Share) (b : State) (one : Sent) → Mirrors told own b.waiting → IsTaken one own.sent
+    → PaysAs (plan_of one) one (record b { share = without one own })
+    → Mirrors (happens told (event.Took one.mid)) (answered_as (plan_of one) one (record b { share = without one own })).share
+    (answered_as (plan_of one) one (record b { share = without one own })).waiting
 unfolding plan_of
-took_mirrors told own b one others old is pays =
-    let request : IsRequest one = (subst (AllByRecursion IsRequest) is old.requests).0 in
-    subst (λ (found : Option Sent). Mirrors (after_took_of found told) (answered_as (planned one.last_create (wire_request one.message)) one (record b { share = without one others own })).share
-    (answered_as (planned one.last_create (wire_request one.message)) one (record b { share = without one others own })).waiting)
-    (sym (found_first one others told.sent (old.sent ∙ is)))
-    (taking told own b one others (wire_request one.message) old is request.proper request.asks (asked_built one.message) pays)
+took_mirrors told own b one old is pays =
+    let request : IsRequest one = found_holds IsRequest one.mid own.sent one old.requests is.found in
+    subst (λ (found : Option Sent). Mirrors (after_took_of found told) (answered_as (planned one.last_create (wire_request one.message)) one (record b { share = without one own })).share
+    (answered_as (planned one.last_create (wire_request one.message)) one (record b { share = without one own })).waiting)
+    (sym (ap (sent_with one.mid) old.sent ∙ is.found))
+    (taking told own b one (wire_request one.message) old is request.proper request.asks (asked_built one.message) pays)
+
+-- a request is put off
+off_request : (mid : Mid) (x : Sent) → IsRequest x → IsRequest (put_off mid x)
+off_request mid x is = by (x.mid.0 == mid.0)
+  where
+    by : (t : Bool) → IsRequest (if t then record x { pended = true } else x)
+    by true = record { asks = is.asks; proper = record { own = is.proper.own; outcome = is.proper.outcome } }
+    by false = is
+
+off_requests : (mid : Mid) (sent : List Sent) → AllByRecursion IsRequest sent → AllByRecursion IsRequest (map (put_off mid) sent)
+off_requests mid [] all = tt
+off_requests mid (x ∷ xs) all = (off_request mid x all.0, off_requests mid xs all.1)
+
+-- once its interim reply is owed, and waits
+abbrev off : Mid → Sent → Share → Share
+off mid one told = record told { sent = map (put_off mid) told.sent; owed = told.owed ++ owed.Interim mid one.message ∷ [] }
+
+off_mirrors : (told own : Share) (waits : List ℕ) (mid : Mid) (one : Sent) (frame : List ℕ) → IsPayment (owed.Interim mid one.message) frame → Mirrors told own waits
+    → Mirrors (off mid one told) (record own { sent = map (put_off mid) own.sent }) (waits ++ frame)
+off_mirrors told own waits mid one frame pays old = record {
+  tree = old.tree;
+  leases = old.leases;
+  own_leases = old.own_leases;
+  connected = old.connected;
+  sent = ap (map (put_off mid)) old.sent;
+  requests = off_requests mid own.sent old.requests;
+  begun = old.begun;
+  paid = subst (ArePayments (told.owed ++ owed.Interim mid one.message ∷ [])) (append_assoc told.held waits frame)
+      (one_more_payment told.owed (owed.Interim mid one.message) (told.held ++ waits) frame old.paid pays);
+  choices = old.choices;
+}
+
+pub pend_mirrors : (told own : Share) (waits : List ℕ) (mid : Mid) (one : Sent) (frame : List ℕ) → sent_with mid own.sent ≡ Some one → one.pended ≡ false
+    → (is_none (wire_request one.message) ≡ false → IsProper one → IsPayment (owed.Interim one.mid one.message) frame) → Mirrors told own waits
+    → MayHappen told (event.Pend mid) × Mirrors (happens told (event.Pend mid)) (record own { sent = map (put_off mid) own.sent }) (waits ++ frame)
+pend_mirrors told own waits mid one frame found fresh pays old =
+    let request : IsRequest one = found_holds IsRequest mid own.sent one old.requests found in
+    let there : sent_with mid told.sent ≡ Some one = ap (sent_with mid) old.sent ∙ found in
+    let payment : IsPayment (owed.Interim mid one.message) frame =
+    subst (λ (m : Mid). IsPayment (owed.Interim m one.message) frame) (found_own mid own.sent one found) (pays request.asks request.proper) in (
+      subst MayPend (sym there) fresh,
+      subst (λ (o : Option Sent). Mirrors (after_pend_of o mid told) (record own { sent = map (put_off mid) own.sent }) (waits ++ frame)) (sym there)
+          (off_mirrors told own waits mid one frame payment old),
+    )

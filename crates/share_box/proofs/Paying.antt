@@ -1,6 +1,6 @@
 -- A written reply pays what is owed.
 use Rattle.std.proofs.Common.{◌≡◌, ◌∙◌, ◌⊎◌, inl, inr, ℕ, Bool, true, false, List, [], ◌++◌, Option, Some, None, Result, Ok, Err, OnOk, refl, sym, ap, subst, arith, length-append}
-use Rattle.std.specs.Prelude.{◌==◌, not, ◌&&◌, ◌||◌, if◌then◌else◌}
+use Rattle.std.specs.Prelude.{◌==◌, not, ◌&&◌, ◌||◌, if◌then◌else◌, is_none}
 use Rattle.smb_base.specs.declared.names.Key.{Key}
 use Rattle.smb_le.specs.Numbers.{number_at}
 use Rattle.smb_head.specs.declared.command.TheConstants.{NEGOTIATE, SESSION_SETUP, TREE_CONNECT, CREATE, CLOSE, QUERY_INFO}
@@ -22,6 +22,7 @@ use Rattle.share_spec.specs.Step.{step_of}
 use Rattle.share_spec.specs.Built.{is_built}
 use Rattle.std.proofs.lemmas.Bool.{false≢true}
 use Rattle.fs_plain.specs.Wire.{has_body, lies}
+use Rattle.fs_plain.specs.Requests.{WireRequest, wire_request}
 use Rattle.fs_plain.specs.Replies.{is_error, body_in, reply_of, reply_by_status, is_aside_by_status, Pays}
 use Rattle.fs_plain.specs.World.{us}
 use Rattle.share_box.specs.declared.bodies.Said.{Said}
@@ -32,23 +33,29 @@ use Rattle.share_box.specs.declared.state.State.{State}
 use Rattle.share_box.specs.Bodies.{negotiated, challenge, session, tree, empty, error, opened, closed, buffer, body_of, status_of}
 use Rattle.share_box.specs.Again.{IsBodyAgain}
 use Rattle.share_box.specs.Answers as answers
-use Rattle.share_box.specs.Answers.{is_first_message, token_in, said_session, said_aside, reply_head}
+use Rattle.share_box.specs.Answers.{is_first_message, token_in, said_session, said_aside, reply_head, pending, interim_of}
 use Rattle.share_box.specs.Serving.{plan_of, said_under, done_by}
-use Rattle.share_box.specs.Paid.{IsPayment, owed_for, is_refusal, IsProper, IsReply, IsReplyTo, PaysAs}
+use Rattle.share_box.specs.Paid.{IsPayment, owed_for, is_refusal, IsProper, IsReply, IsReplyTo, PaysAs, PaysInterim}
 use Rattle.share_box.proofs.Reading.{stands, error_is, closed_is, opened_is, info_is, negotiated_is, session_is, tree_is, empty_is}
 use Rattle.share_box.proofs.Built.{plan_built}
 use Rattle.share_box.proofs.Shapes.{IsRefused, IsOpened, IsTold, create_shape, query_shape, close_shape}
-use Rattle.share_box.proofs.Asking.{IsCreate, IsClose, IsQuery, HasHead, HasRequest, plan_does_own, plan_has_head, plan_refuses_so}
-use Rattle.share_box.proofs.Heard.{heard, heard_aside}
+use Rattle.share_box.proofs.Asking.{IsCreate, IsClose, IsQuery, HasHead, HasRequest, asked_head, plan_does_own, plan_has_head, plan_refuses_so}
+use Rattle.share_box.proofs.Heard.{IsFinal, heard, heard_aside, heard_interim}
 
 -- the message of a reply
 abbrev message : Head → Said → List ℕ
 message head what = header head ++ body_of what
 
 -- what a reply of the share says: behind any header the body is read as this reply to this command
-abbrev Says : ℕ → Rep → Type 0
-Says command reply =
-    IsBodyAgain (said.Share reply) → (head : Head) → reply_by_status reply.status.0 command (message head (said.Share reply)) ≡ Some reply
+record Says (command : ℕ) (reply : Rep) : Type 0 where
+  final : IsFinal (said.Share reply)
+  read : IsBodyAgain (said.Share reply) → (head : Head) → reply_by_status reply.status.0 command (message head (said.Share reply)) ≡ Some reply
+
+of_three : (a b c : Bool) → (not a && not b && not c) ≡ true → ((not a && not b) ≡ true) × (c ≡ false)
+of_three true b c is = absurd (cc is)
+of_three false true c is = absurd (cc is)
+of_three false false true is = absurd (cc is)
+of_three false false false is = (refl, refl)
 
 refused_by : (a b c e : Bool) (x y : Option Rep) → (not a && not b) ≡ true → e ≡ true → (if a || (b && c) then x else if e then y else None) ≡ y
 refused_by true b c e x y h is = absurd (cc h)
@@ -62,8 +69,9 @@ refused_body true u status is h again = absurd (cc h)
 refused_body false u status is h again = (rw is at again, rw is refl)
 
 -- a refusal has the body of an error
-refused_says : (command status : ℕ) → is_refusal status ≡ true → Says command (of_status status)
-refused_says command status refusal again head =
+refused_read : (command status : ℕ) → (not (status == 0) && not (status == 0x80000005)) ≡ true → IsBodyAgain (said.Share (of_status status)) → (head : Head)
+    → reply_by_status status command (message head (said.Share (of_status status))) ≡ Some (of_status status)
+refused_read command status refusal again head =
     let body : IsReadAgain 9 error [] × (body_of (said.Share (of_status status)) ≡ spelling 9 error []) =
     refused_body (status == 0) (not (status == 0x80000005)) status refl refusal again in
     let m = message head (said.Share (of_status status)) in
@@ -72,25 +80,37 @@ refused_says command status refusal again head =
     (error_is (header head ++ spelling 9 error []) (stands 9 error [] (header head) body.0 (length-header head))) in
     refused_by (status == 0) (status == 0x80000005) (command == QUERY_INFO) (is_error m) (reply_of 0 (body_in command m)) (Some (of_status status)) refusal is
 
+refused_says : (command status : ℕ) → is_refusal status ≡ true → Says command (of_status status)
+refused_says command status refusal =
+    let parts : ((not (status == 0) && not (status == 0x80000005)) ≡ true) × ((status == 0x103) ≡ false) =
+    of_three (status == 0) (status == 0x80000005) (status == 0x103) refusal in
+    record { final = parts.1; read = refused_read command status parts.0 }
+
 -- a CREATE that was done
 opened_says : (number action size attributes : ℕ) → Says CREATE (opened_reply number action size attributes)
 unfolding IsBodyAgain body_of
-opened_says number action size attributes again head =
-    ap (reply_of 0) (opened_is (fid_of number) action size attributes (message head (said.Share (opened_reply number action size attributes)))
-    (stands 89 (opened (fid_of number) action size attributes) [] (header head) again (length-header head)))
+opened_says number action size attributes = record {
+  final = refl;
+  read = λ again head. ap (reply_of 0) (opened_is (fid_of number) action size attributes (message head (said.Share (opened_reply number action size attributes)))
+      (stands 89 (opened (fid_of number) action size attributes) [] (header head) again (length-header head)));
+}
 
 -- a Query that was done
 told_says : (s : Share) (node entry : ℕ) → Says QUERY_INFO (info_reply s node entry)
 unfolding IsBodyAgain body_of
-told_says s node entry again head =
-    ap (reply_of 0) (info_is _ _ _ _ _ _ (message head (said.Share (info_reply s node entry))) again
-    (stands 9 (buffer 100) _ (header head) again.body (length-header head)))
+told_says s node entry = record {
+  final = refl;
+  read = λ again head. ap (reply_of 0) (info_is _ _ _ _ _ _ (message head (said.Share (info_reply s node entry))) again
+      (stands 9 (buffer 100) _ (header head) again.body (length-header head)));
+}
 
 -- a Close that was done
 closed_says : Says CLOSE (of_status 0)
 unfolding IsBodyAgain body_of
-closed_says again head =
-    ap (reply_of 0) (closed_is (message head (said.Share (of_status 0))) (stands 60 closed [] (header head) again (length-header head)))
+closed_says = record {
+  final = refl;
+  read = λ again head. ap (reply_of 0) (closed_is (message head (said.Share (of_status 0))) (stands 60 closed [] (header head) again (length-header head)));
+}
 
 created : (command : ℕ) (reply : Rep) → command ≡ CREATE → IsRefused reply ⊎ IsOpened reply → Says command reply
 created command reply by (inl r) = subst (Says command) (sym r.is) (refused_says command r.status r.refusal)
@@ -152,6 +172,19 @@ chosen_says false false true d command head p q r again =
 chosen_says false false false d command head p q r again =
     rw (p, q, r) (empty_is (message head said.Done) (stands 4 empty [] (header head) again (length-header head)))
 
+chosen_final : (a b c d : Bool) → IsFinal (chosen a b c d)
+chosen_final true b c d = refl
+chosen_final false true c true = refl
+chosen_final false true c false = refl
+chosen_final false false true d = refl
+chosen_final false false false d = refl
+
+aside_final : (command : ℕ) (request : List ℕ) → IsFinal (said_aside command request)
+unfolding said_session
+aside_final command request =
+    chosen_final (command == NEGOTIATE) (command == SESSION_SETUP) (command == TREE_CONNECT)
+    (has_body 25 request && lies 25 (number_at 2 76 request) (number_at 2 78 request) request && is_first_message (token_in request))
+
 aside_says : (command : ℕ) (request : List ℕ) (head : Head) → IsBodyAgain (said_aside command request)
     → is_aside_by_status (status_of (said_aside command request)).0 command (message head (said_aside command request)) ≡ true
 unfolding said_session
@@ -172,44 +205,72 @@ pays_by o head what bytes reply pays = record {
 
 -- the reply to a request that waits, by what is to be done for it, pays what is owed
 pub paid : (p : Plan) (one : Sent) (s : Share) (credits : ℕ) (bytes : List ℕ) → plan_of one ≡ Some p → IsProper one
-    → IsReplyTo (head_of one.message) credits (done_by p one s).0 bytes → IsPayment (owed_for p one (done_by p one s).0) bytes
-paid plan.Aside one s credits bytes planned pending reply =
+    → IsReplyTo (head_of one.message) credits one.pended (done_by p one s).0 bytes → IsPayment (owed_for p one (done_by p one s).0) bytes
+paid plan.Aside one s credits bytes planned proper reply =
     let there : HasHead one.message = plan_has_head one plan.Aside planned in
     let what = said_aside there.head.command one.message in
-    let head = reply_head there.head credits what in
+    let head = reply_head there.head credits one.pended what in
     let r : IsReply head what bytes =
-    subst (λ (x : Result Head HeadFault). IsReplyTo x credits (said_under x one.message) bytes) there.is reply in
+    subst (λ (x : Result Head HeadFault). IsReplyTo x credits one.pended (said_under x one.message) bytes) there.is reply in
     pays_by (owed.Aside one.mid one.message) head what bytes r
-    (heard_aside one.mid one.message (message head what) there.head credits what there.is pending.own r.read
+    (heard_aside one.mid one.message (message head what) there.head credits one.pended what there.is proper.own (aside_final there.head.command one.message) r.read
     ∙ aside_says there.head.command one.message head r.again)
-paid (plan.Refuse status) one s credits bytes planned pending reply =
+paid (plan.Refuse status) one s credits bytes planned proper reply =
     let there : HasHead one.message = plan_has_head one (plan.Refuse status) planned in
     let what = said.Share (of_status status.0) in
-    let head = reply_head there.head credits what in
-    let r : IsReply head what bytes = subst (λ (x : Result Head HeadFault). IsReplyTo x credits what bytes) there.is reply in
+    let head = reply_head there.head credits one.pended what in
+    let r : IsReply head what bytes = subst (λ (x : Result Head HeadFault). IsReplyTo x credits one.pended what bytes) there.is reply in
+    let says : Says there.head.command (of_status status.0) =
+    refused_says there.head.command status.0 (plan_refuses_so one status planned proper.outcome) in
     pays_by (owed.Reply one.mid one.message (of_status status.0)) head what bytes r
-    (heard one.mid one.message (message head what) there.head credits what there.is pending.own r.read
-    ∙ refused_says there.head.command status.0 (plan_refuses_so one status planned pending.outcome) r.again head)
-paid (plan.Do q) one s credits bytes planned pending reply =
+    (heard one.mid one.message (message head what) there.head credits one.pended what there.is proper.own says.final r.read ∙ says.read r.again head)
+paid (plan.Do q) one s credits bytes planned proper reply =
     let there : HasRequest one.message q = plan_does_own one q planned in
     let what = said.Share (step_of None s us q).0 in
-    let head = reply_head there.head credits what in
-    let r : IsReply head what bytes = subst (λ (x : Result Head HeadFault). IsReplyTo x credits what bytes) there.is reply in
+    let head = reply_head there.head credits one.pended what in
+    let r : IsReply head what bytes = subst (λ (x : Result Head HeadFault). IsReplyTo x credits one.pended what bytes) there.is reply in
+    let says : Says there.head.command (step_of None s us q).0 = steps there.head.command s q (plan_built one q planned) there.fits in
     pays_by (owed.Reply one.mid one.message (step_of None s us q).0) head what bytes r
-    (heard one.mid one.message (message head what) there.head credits what there.is pending.own r.read
-    ∙ steps there.head.command s q (plan_built one q planned) there.fits r.again head)
+    (heard one.mid one.message (message head what) there.head credits one.pended what there.is proper.own says.final r.read ∙ says.read r.again head)
 
 -- so does the reply that a box writes
 pub pays_as : (one : Sent) (b : State) (p : Plan) (what : Said) (bytes : List ℕ) → plan_of one ≡ Some p → (done_by p one b.share).0 ≡ what
-    → bytes ≡ answers.reply_of b.credits one.message what → IsReplyTo (head_of one.message) b.credits what bytes → PaysAs (plan_of one) one b
+    → bytes ≡ answers.reply_of b.credits one.pended one.message what → IsReplyTo (head_of one.message) b.credits one.pended what bytes → PaysAs (plan_of one) one b
 pays_as one b p what bytes planned done is reply =
-    let own : IsReplyTo (head_of one.message) b.credits (done_by p one b.share).0 bytes =
-    subst (λ (w : Said). IsReplyTo (head_of one.message) b.credits w bytes) (sym done) reply in
-    let same : bytes ≡ answers.reply_of b.credits one.message (done_by p one b.share).0 =
-    is ∙ ap (λ (w : Said). answers.reply_of b.credits one.message w) (sym done) in
+    let own : IsReplyTo (head_of one.message) b.credits one.pended (done_by p one b.share).0 bytes =
+    subst (λ (w : Said). IsReplyTo (head_of one.message) b.credits one.pended w bytes) (sym done) reply in
+    let same : bytes ≡ answers.reply_of b.credits one.pended one.message (done_by p one b.share).0 =
+    is ∙ ap (λ (w : Said). answers.reply_of b.credits one.pended one.message w) (sym done) in
     subst (λ (o : Option Plan). PaysAs o one b) (sym planned)
-    (λ pending. subst (λ (f : List ℕ). IsPayment (owed_for p one (done_by p one b.share).0) f) same
-    (paid p one b.share b.credits bytes planned pending own))
+    (λ proper. subst (λ (f : List ℕ). IsPayment (owed_for p one (done_by p one b.share).0) f) same
+    (paid p one b.share b.credits bytes planned proper own))
+
+-- a request asks for something
+asked : (o : Option WireRequest) → is_none o ≡ false → (a : WireRequest) × (o ≡ Some a)
+asked None is = absurd (cc is)
+asked (Some a) is = (a, refl)
+
+-- an interim reply pays what is owed for a request that is put off
+interim_read : (head : Head) → IsBodyAgain pending → is_error (message head pending) ≡ true
+unfolding IsBodyAgain body_of
+interim_read head again = error_is (message head pending) (stands 9 error [] (header head) again (length-header head))
+
+pub interim_paid : (one : Sent) (bytes : List ℕ) → is_none (wire_request one.message) ≡ false → IsProper one
+    → IsReplyTo (head_of one.message) 0 true pending bytes → IsPayment (owed.Interim one.mid one.message) bytes
+interim_paid one bytes asks proper reply =
+    let a : (a : WireRequest) × (wire_request one.message ≡ Some a) = asked (wire_request one.message) asks in
+    let there : HasHead one.message = asked_head one.message a.0 a.1 in
+    let head = reply_head there.head 0 true pending in
+    let r : IsReply head pending bytes = subst (λ (x : Result Head HeadFault). IsReplyTo x 0 true pending bytes) there.is reply in
+    pays_by (owed.Interim one.mid one.message) head pending bytes r
+    (heard_interim one.mid one.message (message head pending) there.head there.is proper.own r.read (interim_read head r.again))
+
+-- as a box writes it, where the request was found
+pub interim_pays : (found : Option Sent) (one : Sent) (bytes : List ℕ) → found ≡ Some one → bytes ≡ interim_of one.message
+    → IsReplyTo (head_of one.message) 0 true pending bytes → PaysInterim found
+interim_pays found one bytes is written reply =
+    subst PaysInterim (sym is) (λ fresh asks proper.
+    subst (IsPayment (owed.Interim one.mid one.message)) written (interim_paid one bytes asks proper reply))
 
 -- what holds anyhow holds of a success
 pub ok_any : {A E : Type 0} {P : Type 0} (r : Result A E) → P → OnOk r P

@@ -1,6 +1,6 @@
 -- Requests that wait stay proper: each under the id in its message, and with what a CREATE before it can come to.
-use Rattle.std.proofs.Common.{◌≡◌, ◌∙◌, ℕ, Bool, true, false, List, [], ◌∷◌, ◌++◌, Option, Some, None, Result, Ok, Err, OnOk, map, refl, sym, ap, subst}
-use Rattle.std.specs.Prelude.{◌+◌, ◌==◌, not, if◌then◌else◌, filter, is_none}
+use Rattle.std.proofs.Common.{◌≡◌, ◌∙◌, ℕ, Bool, true, false, List, [], ◌∷◌, ◌++◌, Option, Some, None, Result, Ok, Err, OnOk, map, refl, sym, ap, subst, take}
+use Rattle.std.specs.Prelude.{◌+◌, ◌==◌, not, if◌then◌else◌, filter, is_none, slice_get}
 use Rattle.std.specs.List.{list_all}
 use Rattle.smb_base.specs.declared.names.Mid.{Mid}
 use Rattle.smb_chain.specs.declared.parts.BadNext.{BadNext}
@@ -20,7 +20,7 @@ use Rattle.share_spec.specs.State.{emptied}
 use Rattle.share_spec.specs.Place.{place_of}
 use Rattle.share_spec.specs.Leases.{granting_of}
 use Rattle.share_spec.specs.Reply.{unless, refused}
-use Rattle.share_spec.specs.Sent.{sent_but, behind_create}
+use Rattle.share_spec.specs.Sent.{behind_create, put_off, sent_but, sent_with}
 use Rattle.share_spec.specs.Create.{is_disposition, overwrites, made, opened, create_at, create_of}
 use Rattle.share_spec.specs.Close.{open_of, close_open}
 use Rattle.share_spec.specs.Query.{query_open}
@@ -32,7 +32,8 @@ use Rattle.share_box.specs.declared.serving.Plan.TheVariants as plan
 use Rattle.share_box.specs.declared.state.State.{State}
 use Rattle.share_box.specs.Serving.{plan_of}
 use Rattle.share_box.specs.Paid.{is_outcome, IsProper, AreProper}
-use Rattle.share_box.specs.Turns.{share_after_act, served_as, served}
+use Rattle.share_box.specs.Order.{waiting_ids}
+use Rattle.share_box.specs.Turns.{share_after_act, served_as, served_found, interim_to, delayed_by, delayed, all_delayed, served_with, served}
 use Rattle.share_box.proofs.Grants.{create_outcome}
 
 by_test : (t : Bool) (xs ys : List Sent) → AreProper xs → AreProper ys → AreProper (if t then xs else ys)
@@ -129,17 +130,44 @@ serves_proper : (o : Option Plan) (one : Sent) (b : State) → AreProper b.share
 serves_proper None one b all = all
 serves_proper (Some p) one b all = does_proper p one b all
 
-served_proper : (sent : List Sent) (b : State) → AreProper sent → AreProper b.share.sent → AreProper (served sent b).share.sent
-served_proper [] b waiting all = all
-served_proper (one ∷ others) b waiting all =
-    serves_proper (plan_of one) one (record b { share = record b.share { sent = sent_but one.mid others } })
-    (proper_filter (λ x. not (x.mid.0 == one.mid.0)) others waiting.1)
+found_proper : (o : Option Sent) (b : State) → AreProper b.share.sent → AreProper (served_found o b).share.sent
+found_proper None b all = all
+found_proper (Some one) b all =
+    serves_proper (plan_of one) one (record b { share = record b.share { sent = sent_but one.mid b.share.sent } })
+    (proper_filter (λ x. not (x.mid.0 == one.mid.0)) b.share.sent all)
 
--- code that serves the oldest request leaves proper what waits
-pub serve_keeps : {A E : Type 0} (r : Result A E) (old new : State) → OnOk r (new ≡ served old.share.sent old)
+with_proper : (o : Option Mid) (b : State) → AreProper b.share.sent → AreProper (served_with o b).share.sent
+with_proper None b all = all
+with_proper (Some mid) b all = found_proper (sent_with mid b.share.sent) b all
+
+-- requests that are put off stay proper
+off_proper : (mid : Mid) (xs : List Sent) → AreProper xs → AreProper (map (put_off mid) xs)
+off_proper mid [] all = tt
+off_proper mid (x ∷ xs) all = (by (x.mid.0 == mid.0), off_proper mid xs all.1)
+  where
+    by : (t : Bool) → IsProper (if t then record x { pended = true } else x)
+    by true = record { own = all.0.own; outcome = all.0.outcome }
+    by false = all.0
+
+delayed_proper : (reply : Option (List ℕ)) (mid : Mid) (b : State) → AreProper b.share.sent → AreProper (delayed_by reply mid b).share.sent
+delayed_proper None mid b all = all
+delayed_proper (Some frame) mid b all = off_proper mid b.share.sent all
+
+all_delayed_proper : (mids : List Mid) (b : State) → AreProper b.share.sent → AreProper (all_delayed mids b).share.sent
+all_delayed_proper [] b all = all
+all_delayed_proper (mid ∷ mids) b all = all_delayed_proper mids (delayed mid b) (delayed_proper (interim_to (sent_with mid b.share.sent)) mid b all)
+
+served_proper : (n : ℕ) (b : State) → AreProper b.share.sent → AreProper (served n b).share.sent
+unfolding served
+served_proper n b all =
+    with_proper (slice_get (waiting_ids b.share.sent) n) (all_delayed (take n (waiting_ids b.share.sent)) b)
+    (all_delayed_proper (take n (waiting_ids b.share.sent)) b all)
+
+-- code that serves a request leaves proper what waits
+pub serve_keeps : {A E : Type 0} (r : Result A E) (n : ℕ) (old new : State) → OnOk r (new ≡ served n old)
     → OnOk r (AreProper old.share.sent → AreProper new.share.sent)
-serve_keeps (Ok done) old new is = λ all. subst (λ (b : State). AreProper b.share.sent) (sym is) (served_proper old.share.sent old all all)
-serve_keeps (Err e) old new is = tt
+serve_keeps (Ok done) n old new is = λ all. subst (λ (b : State). AreProper b.share.sent) (sym is) (served_proper n old all)
+serve_keeps (Err e) n old new is = tt
 
 -- so does code that does a request of another client
 pub act_keeps : {A E : Type 0} (r : Result A E) (old new : Share) (who : ℕ) (q : Req) (more : Type 0) → OnOk r ((new ≡ share_after_act old who q) × more)

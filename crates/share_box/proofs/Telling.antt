@@ -1,11 +1,12 @@
 -- What a box does goes on in step with its story.
-use Rattle.std.proofs.Common.{◌≡◌, ◌∙◌, ℕ, ◌==◌, ◌&&◌, Bool, true, false, not, if◌then◌else◌, List, [], ◌∷◌, ◌++◌, take, refl, sym, subst, inl, inr, Option, Some, None, Result, Ok, Err, OnOk, OnErr}
+use Rattle.std.proofs.Common.{◌≡◌, ◌∙◌, ℕ, ◌==◌, ◌&&◌, Bool, true, false, not, if◌then◌else◌, List, [], ◌∷◌, ◌++◌, take, refl, sym, ap, subst, inl, inr, Option, Some, None, Result, Ok, Err, OnOk, OnErr}
 use Rattle.std.specs.Prelude.{◌⊎◌}
 use Rattle.smb_head.proofs.FrameLaws.{first_of-nil}
+use Rattle.smb_base.specs.declared.names.Mid.{Mid}
 use Rattle.share_spec.specs.declared.connection.Sent.{Sent}
 use Rattle.share_spec.specs.declared.request.Req.{Req}
 use Rattle.share_spec.specs.declared.share.Share.{Share}
-use Rattle.share_spec.specs.Sent.{sent_but}
+use Rattle.share_spec.specs.Sent.{sent_but, sent_with}
 use Rattle.share_spec.specs.Built.{is_built}
 use Rattle.share_spec.specs.Step.{step_of}
 use Rattle.smb_link.specs.declared.event.Event.{Event}
@@ -16,16 +17,18 @@ use Rattle.fs_plain.specs.Honest.{MayHappen, HonestFrom, IsHonest}
 use Rattle.fs_plain.specs.CleanEnd.{share_after}
 use Rattle.fs_plain.specs.Moves.{at_start}
 use Rattle.share_box.specs.declared.schedule.Turn.{Turn}
-use Rattle.share_box.specs.declared.schedule.Turn.TheVariants as turn
 use Rattle.share_box.specs.declared.state.State.{State}
 use Rattle.share_box.specs.Serving.{plan_of, is_free}
-use Rattle.share_box.specs.Paid.{PaysAs, PaysFirst, ServesPaid}
+use Rattle.share_box.specs.Paid.{PaysAs, PaysInterim}
 use Rattle.share_box.specs.declared.serving.Plan.{Plan}
-use Rattle.share_box.specs.Turns.{may_act, is_possible, answered_as, served_as, served, act_events, share_after_act, turned}
+use Rattle.share_box.specs.Order.{is_next}
+use Rattle.share_box.specs.Answers.{interim_of}
+use Rattle.share_box.specs.Turns.{may_act, answered_as, served_as, interim_to, delayed_by, act_events, share_after_act}
 use Rattle.share_box.specs.Calls.{fresh_box, ended, accepted, left, joined, refused, passed, given, waited, marked}
 use Rattle.share_box.specs.Truth.{Mirrors, IsAlwaysHonest, TellsOf, IsTruthful, IsInStep, IsFaithful, IsUntold, GoesInStep, StopsTruthful, Keeps, TookOrNot}
 use Rattle.share_box.proofs.Choices.{always_honest}
-use Rattle.share_box.proofs.Mirrors.{sent_mirrors, lost_mirrors, cut_mirrors, join_mirrors, got_mirrors, act_mirrors, took_mirrors, may_take}
+use Rattle.share_box.proofs.Mirrors.{sent_mirrors, lost_mirrors, cut_mirrors, join_mirrors, got_mirrors, act_mirrors, IsTaken, took_mirrors, may_take, pend_mirrors}
+use Rattle.share_box.proofs.Ordering.{found_own}
 
 -- a story goes on
 after_both : (s : Share) (xs ys : List Event) → share_after s (xs ++ ys) ≡ share_after (share_after s xs) ys
@@ -173,42 +176,39 @@ act_goes b new who r may room fold story share waiting =
     goes_told b new (event.Act who r (step_of None b.share (record { 0 = who }) r).0) room fold story
     (λ told old. rw (share, waiting) (act_mirrors told b.share b.waiting who r is.0 is.1 old))
 
--- the oldest request that waits is served
-served_as_goes : (b : State) (one : Sent) (others : List Sent) → b.share.sent ≡ one ∷ others → PaysFirst (one ∷ others) b
-    → (plan : Option Plan) → plan_of one ≡ plan → GoesInStep b (served_as plan one (record b { share = record b.share { sent = sent_but one.mid others } }))
-served_as_goes b one others is pays None planned =
+-- a request that waits is served
+served_goes : (b : State) (one : Sent) → IsTaken one b.share.sent
+    → PaysAs (plan_of one) one (record b { share = record b.share { sent = sent_but one.mid b.share.sent } })
+    → (plan : Option Plan) → plan_of one ≡ plan → GoesInStep b (served_as plan one (record b { share = record b.share { sent = sent_but one.mid b.share.sent } }))
+served_goes b one is pays None planned =
     goes_told b _ (event.Took one.mid) refl refl refl (λ told old. (
-      may_take told b.share b.waiting one others old is,
-      subst (λ (p : Option Plan). Mirrors (happens told (event.Took one.mid)) (answered_as p one (record b { share = record b.share { sent = sent_but one.mid others } })).share
-          (answered_as p one (record b { share = record b.share { sent = sent_but one.mid others } })).waiting) planned
-          (took_mirrors told b.share b one others old is pays),
+      may_take told b.share b.waiting one old is,
+      subst (λ (p : Option Plan). Mirrors (happens told (event.Took one.mid)) (answered_as p one (record b { share = record b.share { sent = sent_but one.mid b.share.sent } })).share
+          (answered_as p one (record b { share = record b.share { sent = sent_but one.mid b.share.sent } })).waiting) planned
+          (took_mirrors told b.share b one old is pays),
     ))
-served_as_goes b one others is pays (Some plan) planned =
+served_goes b one is pays (Some plan) planned =
     goes_told b _ (event.Took one.mid) refl refl refl (λ told old. (
-      may_take told b.share b.waiting one others old is,
-      subst (λ (p : Option Plan). Mirrors (happens told (event.Took one.mid)) (answered_as p one (record b { share = record b.share { sent = sent_but one.mid others } })).share
-          (answered_as p one (record b { share = record b.share { sent = sent_but one.mid others } })).waiting) planned
-          (took_mirrors told b.share b one others old is pays),
+      may_take told b.share b.waiting one old is,
+      subst (λ (p : Option Plan). Mirrors (happens told (event.Took one.mid)) (answered_as p one (record b { share = record b.share { sent = sent_but one.mid b.share.sent } })).share
+          (answered_as p one (record b { share = record b.share { sent = sent_but one.mid b.share.sent } })).waiting) planned
+          (took_mirrors told b.share b one old is pays),
     ))
 
-served_goes : (b : State) (sent : List Sent) → b.share.sent ≡ sent → PaysFirst sent b → GoesInStep b (served sent b)
-served_goes b [] is pays = same_goes b b refl refl refl refl refl
-served_goes b (one ∷ others) is pays = served_as_goes b one others is pays (plan_of one) refl
+-- a request that waits is put off, unless it was before
+delayed_goes : (b : State) (mid : Mid) (found : Option Sent) → sent_with mid b.share.sent ≡ found → PaysInterim found → GoesInStep b (delayed_by (interim_to found) mid b)
+delayed_goes b mid None is pays = same_goes b b refl refl refl refl refl
+delayed_goes b mid (Some one) is pays = by one.pended refl
+  where
+    by : (t : Bool) → one.pended ≡ t → GoesInStep b (delayed_by (if t then None else Some (interim_of one.message)) mid b)
+    by true before = same_goes b b refl refl refl refl refl
+    by false fresh =
+        goes_told b _ (event.Pend mid) refl refl refl (λ told old. pend_mirrors told b.share b.waiting mid one (interim_of one.message) is fresh (pays fresh) old)
 
--- a turn that is no cut
-pub turned_goes : (t : Turn) (b : State) → is_possible b.share t ≡ true → ServesPaid t b → GoesInStep b (turned t b)
-unfolding turned
-turned_goes (turn.Serve n) b may pays = served_goes b b.share.sent refl pays
-turned_goes (turn.Act who r) b may pays = act_goes b (turned (turn.Act who r) b) who r may refl refl refl refl refl
-turned_goes turn.Cut b may pays = same_goes b b refl refl refl refl refl
-turned_goes turn.Quiet b may pays = same_goes b b refl refl refl refl refl
-turned_goes turn.DropAll b may pays = same_goes b b refl refl refl refl refl
-turned_goes turn.RefuseConnect b may pays = same_goes b b refl refl refl refl refl
-
--- memory ran out before the oldest request was taken, or after it was
-pub took_stops : (old new : State) (share : Share) (one : Sent) (others : List Sent) → old.share.sent ≡ one ∷ others
+-- memory ran out before a request was taken, or after it was
+took_stops : (old new : State) (share : Share) (one : Sent) → IsTaken one old.share.sent
     → TookOrNot one.mid (record old { share = share }) new → StopsTruthful old new
-took_stops old new share one others is took = by took.story
+took_stops old new share one is took = by took.story
   where
     by : (new.story ≡ old.story) ⊎ (new.story ≡ old.story ++ event.Took one.mid ∷ []) → StopsTruthful old new
     by (inl none) = untold_stops old new (record { room = took.room; fold = took.fold; story = none })
@@ -217,7 +217,7 @@ took_stops old new share one others is took = by took.story
       fold = took.fold;
       keeps = λ step. record {
         honest = rw (took.room, took.fold, told) (more_honest old.room old.fold old.story (event.Took one.mid ∷ []) old.share old.waiting step.tells
-            (λ w mirrors. (may_take w old.share old.waiting one others mirrors is, tt)));
+            (λ w mirrors. (may_take w old.share old.waiting one mirrors is, tt)));
       };
     }
 
@@ -234,12 +234,34 @@ pub ended_keeps : {A E : Type 0} (result : Result A E) (old new : State) → OnO
 ended_keeps (Ok x) old new ok err = rw ok (ended_goes old)
 ended_keeps (Err e) old new ok err = untold_stops old new err
 
-pub serve_keeps : {A E : Type 0} (result : Result A E) (old new : State) (one : Sent) (others rest : List Sent) → old.share.sent ≡ one ∷ others → rest ≡ sent_but one.mid others
+-- a request that was found by its id, and is the first of its frame
+is_taken : (mid : Mid) (sent : List Sent) (one : Sent) → sent_with mid sent ≡ Some one → is_next (sent_with mid sent) sent ≡ true → IsTaken one sent
+is_taken mid sent one found next = record {
+  found = ap (λ (m : Mid). sent_with m sent) (found_own mid sent one found) ∙ found;
+  first = ap (λ (o : Option Sent). is_next o sent) (sym found) ∙ next;
+}
+
+pub serve_keeps : {A E : Type 0} (result : Result A E) (old new : State) (mid : Mid) (one : Sent) (rest : List Sent) → sent_with mid old.share.sent ≡ Some one
+    → is_next (sent_with mid old.share.sent) old.share.sent ≡ true → rest ≡ sent_but mid old.share.sent
     → OnOk result (new ≡ served_as (plan_of one) one (record old { share = record old.share { sent = rest } }))
     → OnOk result (PaysAs (plan_of one) one (record old { share = record old.share { sent = rest } }))
     → OnErr result (TookOrNot one.mid (record old { share = record old.share { sent = rest } }) new) → Keeps result old new
-serve_keeps (Ok x) old new one others rest is left ok pays err = rw (ok, left) (served_as_goes old one others is (rw left at pays) (plan_of one) refl)
-serve_keeps (Err e) old new one others rest is left ok pays err = took_stops old new (record old.share { sent = rest }) one others is err
+serve_keeps (Ok x) old new mid one rest found next left ok pays err =
+    let own : rest ≡ sent_but one.mid old.share.sent = left ∙ ap (λ (m : Mid). sent_but m old.share.sent) (sym (found_own mid old.share.sent one found)) in
+    rw (ok, own) (served_goes old one (is_taken mid old.share.sent one found next) (rw own at pays) (plan_of one) refl)
+serve_keeps (Err e) old new mid one rest found next left ok pays err =
+    took_stops old new (record old.share { sent = rest }) one (is_taken mid old.share.sent one found next) err
+
+pub delay_keeps : {A E : Type 0} (result : Result A E) (old new : State) (mid : Mid) (frame : List ℕ) → interim_to (sent_with mid old.share.sent) ≡ Some frame
+    → PaysInterim (sent_with mid old.share.sent) → OnOk result (new ≡ delayed_by (Some frame) mid old) → OnErr result (new ≡ record old { waiting = new.waiting })
+    → Keeps result old new
+delay_keeps (Ok x) old new mid frame is pays ok err =
+    rw ok (subst (λ (reply : Option (List ℕ)). GoesInStep old (delayed_by reply mid old)) is (delayed_goes old mid (sent_with mid old.share.sent) refl pays))
+delay_keeps (Err e) old new mid frame is pays ok err = untold_stops old new (record {
+  room = ap (λ (b : State). b.room) err;
+  fold = ap (λ (b : State). b.fold) err;
+  story = ap (λ (b : State). b.story) err;
+})
 
 pub act_keeps : {A E : Type 0} (result : Result A E) (b : State) (share : Share) (story : List Event) (who : ℕ) (r : Req) → may_act b.share who r ≡ true
     → OnOk result ((share ≡ share_after_act b.share who r) × (story ≡ b.story ++ act_events b.share who r)) → OnErr result (story ≡ b.story)

@@ -1,6 +1,7 @@
 -- Replies, each as a frame of its own.
-use Rattle.std.specs.Prelude.{ℕ, ◌==◌, Bool, ◌&&◌, nat_le, if◌then◌else◌, List, [], ◌∷◌, length, take, bytes_eq, codes, Result, Ok, Err}
+use Rattle.std.specs.Prelude.{ℕ, ◌==◌, Bool, true, ◌&&◌, nat_le, if◌then◌else◌, List, [], ◌∷◌, length, take, bytes_eq, codes, Result, Ok, Err}
 use Rattle.smb_le.specs.Numbers.{number_at}
+use Rattle.smb_le.specs.declared.flags.HeadFlags.{HeadFlags}
 use Rattle.smb_head.specs.declared.command.TheConstants.{NEGOTIATE, SESSION_SETUP, TREE_CONNECT}
 use Rattle.smb_head.specs.declared.head.Head.{Head}
 use Rattle.smb_head.specs.declared.head.HeadFault.{HeadFault}
@@ -9,6 +10,7 @@ use Rattle.smb_head.specs.declared.head.Route.TheVariants.{Sync, Async}
 use Rattle.smb_head.specs.Header.{head_of}
 use Rattle.smb_head.specs.Stream.{frame}
 use Rattle.smb_chain.specs.Chain.{chain, message as message_of}
+use Rattle.share_spec.specs.Reply.{of_status}
 use Rattle.share_box.specs.declared.bodies.Said.{Said}
 use Rattle.share_box.specs.declared.bodies.Said.TheVariants as said
 use Rattle.fs_plain.specs.Wire.{has_body, lies, bytes_at}
@@ -49,24 +51,40 @@ tree_in (Async id) = 0
 abbrev pub tree_of : Head → ℕ
 tree_of head = if head.command == TREE_CONNECT then 1 else tree_in head.route
 
+-- its way: after an interim reply, and for that one itself, it is an asynchronous one, under the id of its message
+abbrev pub route_of : Head → Bool → Route
+route_of head pended = if pended then Async head.mid.0 else Sync (tree_of head)
+
+-- its flags: that of replies, and that of asynchronous ones
+abbrev pub flags_of : Bool → HeadFlags
+flags_of pended = if pended then record { 0 = 3 } else record { 0 = 1 }
+
 -- its header
-abbrev pub reply_head : Head → ℕ → Said → Head
-reply_head head credits what = record {
+abbrev pub reply_head : Head → ℕ → Bool → Said → Head
+reply_head head credits pended what = record {
   charge = head.charge;
   status = status_of what;
   command = head.command;
   credits = credits;
-  flags = record { 0 = 1 };
+  flags = flags_of pended;
   next = 0;
   mid = head.mid;
-  route = Sync (tree_of head);
+  route = route_of head pended;
   session = session_of head;
 }
 
-abbrev pub reply_under : Result Head HeadFault → ℕ → Said → List ℕ
-reply_under (Err fault) credits what = []
-reply_under (Ok head) credits what = frame (chain (message_of (reply_head head credits what) (body_of what) ∷ []))
+abbrev pub reply_under : Result Head HeadFault → ℕ → Bool → Said → List ℕ
+reply_under (Err fault) credits pended what = []
+reply_under (Ok head) credits pended what = frame (chain (message_of (reply_head head credits pended what) (body_of what) ∷ []))
 
--- the frame of the reply to a message, which has a header
-unfoldable pub reply_of : ℕ → List ℕ → Said → List ℕ
-reply_of credits message what = reply_under (head_of message) credits what
+-- the frame of the reply to a message, which has a header and may have been put off
+unfoldable pub reply_of : ℕ → Bool → List ℕ → Said → List ℕ
+reply_of credits pended message what = reply_under (head_of message) credits pended what
+
+-- that a request was put off: STATUS_PENDING
+abbrev pub pending : Said
+pending = said.Share (of_status 0x103)
+
+-- the interim reply to a message (MS-SMB2 3.3.4.2), which grants nothing
+abbrev pub interim_of : List ℕ → List ℕ
+interim_of message = reply_of 0 true message pending

@@ -1,4 +1,5 @@
 pub mod Schedule
+pub mod Order
 pub mod Parsed
 pub mod Bodies
 pub mod Again

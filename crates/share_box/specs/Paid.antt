@@ -1,5 +1,5 @@
 -- What the replies of a box pay.
-use Rattle.std.specs.Prelude.{◌≡◌, ◌≤◌, ◌==◌, ℕ, Bool, true, false, not, ◌&&◌, List, [], ◌∷◌, ◌++◌, length, Option, Some, None, Result, Ok, Err}
+use Rattle.std.specs.Prelude.{◌≡◌, ◌≤◌, ◌==◌, ℕ, Bool, true, false, not, ◌&&◌, is_none, List, [], ◌∷◌, ◌++◌, length, Option, Some, None, Result, Ok, Err}
 use Rattle.std.specs.List.{AllByRecursion}
 use Rattle.smb_head.specs.declared.first.TheConstants.{MAX_FRAME}
 use Rattle.smb_head.specs.declared.head.Head.{Head}
@@ -15,20 +15,18 @@ use Rattle.share_spec.specs.declared.connection.Sent.{Sent}
 use Rattle.share_spec.specs.declared.request.RepBody.{RepBody}
 use Rattle.share_spec.specs.declared.request.RepBody.TheVariants as body
 use Rattle.share_spec.specs.Reply.{of_status}
-use Rattle.share_spec.specs.Sent.{sent_but}
+use Rattle.fs_plain.specs.Requests.{wire_request}
 use Rattle.fs_plain.specs.Replies.{Pays}
 use Rattle.fs_plain.specs.World.{mid_of}
 use Rattle.share_box.specs.declared.bodies.Said.{Said}
 use Rattle.share_box.specs.declared.bodies.Said.TheVariants as said
-use Rattle.share_box.specs.declared.schedule.Turn.{Turn}
-use Rattle.share_box.specs.declared.schedule.Turn.TheVariants as turn
 use Rattle.share_box.specs.declared.serving.Plan.{Plan}
 use Rattle.share_box.specs.declared.serving.Plan.TheVariants as plan
 use Rattle.share_box.specs.declared.state.State.{State}
 use Rattle.share_box.specs.Bodies.{body_of}
-use Rattle.share_box.specs.Answers.{reply_head, reply_of}
+use Rattle.share_box.specs.Answers.{reply_head, reply_of, interim_of}
 use Rattle.share_box.specs.Again.{IsBodyAgain}
-use Rattle.share_box.specs.Serving.{plan_of, done_by}
+use Rattle.share_box.specs.Serving.{done_by}
 
 -- bytes are one frame of one message, which pays what is owed
 pub record IsPayment (o : Owed) (bytes : List ℕ) : Type 0 where
@@ -45,9 +43,10 @@ owed_for (plan.Refuse status) one what = owed.Reply one.mid one.message (of_stat
 owed_for (plan.Do r) one (said.Share reply) = owed.Reply one.mid one.message reply
 owed_for (plan.Do r) one other = owed.Aside one.mid one.message
 
--- a status with which a CREATE is refused: it is neither that of success nor BUFFER_OVERFLOW, which a query that was done may have
+-- a status with which a CREATE is refused: it is neither that of success nor BUFFER_OVERFLOW, which a query that was done may have,
+-- nor PENDING, which only an interim reply has
 abbrev pub is_refusal : ℕ → Bool
-is_refusal status = not (status == 0) && not (status == 0x80000005)
+is_refusal status = not (status == 0) && not (status == 0x80000005) && not (status == 0x103)
 
 -- what the last CREATE before a request came to: it was refused only with such a status
 abbrev pub is_outcome : LastCreate → Bool
@@ -77,23 +76,19 @@ pub record IsReply (head : Head) (what : Said) (bytes : List ℕ) : Type 0 where
   pub again : IsBodyAgain what
 
 -- the reply to a message, which has a header
-abbrev pub IsReplyTo : Result Head HeadFault → ℕ → Said → List ℕ → Type 0
-IsReplyTo (Err fault) credits what bytes = Unit {0}
-IsReplyTo (Ok head) credits what bytes = IsReply (reply_head head credits what) what bytes
+abbrev pub IsReplyTo : Result Head HeadFault → ℕ → Bool → Said → List ℕ → Type 0
+IsReplyTo (Err fault) credits pended what bytes = Unit {0}
+IsReplyTo (Ok head) credits pended what bytes = IsReply (reply_head head credits pended what) what bytes
 
 -- the reply to a request, with what is to be done for it, pays what is owed
 abbrev pub PaysAs : Option Plan → Sent → State → Type 0
 PaysAs None one b = Unit {0}
 PaysAs (Some p) one b =
-    IsProper one → IsPayment (owed_for p one (done_by p one b.share).0) (reply_of b.credits one.message (done_by p one b.share).0)
+    IsProper one → IsPayment (owed_for p one (done_by p one b.share).0) (reply_of b.credits one.pended one.message (done_by p one b.share).0)
 
--- the reply to the oldest of these pays what is owed for it
-abbrev pub PaysFirst : List Sent → State → Type 0
-PaysFirst [] b = Unit {0}
-PaysFirst (one ∷ others) b =
-    PaysAs (plan_of one) one (record b { share = record b.share { sent = sent_but one.mid others } })
-
--- where a turn serves the oldest request that waits, its reply pays what is owed for it
-abbrev pub ServesPaid : Turn → State → Type 0
-ServesPaid (turn.Serve n) b = PaysFirst b.share.sent b
-ServesPaid other b = Unit {0}
+-- the interim reply to a request that was found, and had none before, pays what is owed once it is put off
+abbrev pub PaysInterim : Option Sent → Type 0
+PaysInterim None = Unit {0}
+PaysInterim (Some one) =
+    one.pended ≡ false → is_none (wire_request one.message) ≡ false → IsProper one
+    → IsPayment (owed.Interim one.mid one.message) (interim_of one.message)

@@ -1,5 +1,5 @@
 -- What a request that waits comes to (MS-SMB2 3.3.5.2).
-use Rattle.std.specs.Prelude.{ℕ, ◌==◌, Bool, true, false, List, [], ◌∷◌, length, Option, Some, None, Result, Ok, Err}
+use Rattle.std.specs.Prelude.{ℕ, ◌==◌, Bool, ◌&&◌, true, false, List, length, slice_get, Option, Some, None, Result, Ok, Err}
 use Rattle.smb_base.specs.declared.names.Mid.{Mid}
 use Rattle.smb_head.specs.declared.head.Head.{Head}
 use Rattle.smb_head.specs.declared.head.HeadFault.{HeadFault}
@@ -13,13 +13,15 @@ use Rattle.share_spec.specs.declared.share.Share.{Share}
 use Rattle.share_spec.specs.Breaks.{needs_of}
 use Rattle.share_spec.specs.Built.{is_built}
 use Rattle.share_spec.specs.Reply.{of_status}
+use Rattle.share_spec.specs.Sent.{sent_with}
 use Rattle.share_spec.specs.Step.{step_of}
 use Rattle.fs_plain.specs.Requests.{WireRequest, wire_request}
-use Rattle.fs_plain.specs.World.{us, resolved, refused_before, after_create}
+use Rattle.fs_plain.specs.World.{us, is_first_of_frame, resolved, refused_before, after_create}
 use Rattle.share_box.specs.declared.bodies.Said.{Said}
 use Rattle.share_box.specs.declared.bodies.Said.TheVariants as said
 use Rattle.share_box.specs.declared.serving.Plan.{Plan}
 use Rattle.share_box.specs.declared.serving.Plan.TheVariants as plan
+use Rattle.share_box.specs.Order.{waiting_ids}
 use Rattle.share_box.specs.Answers.{said_aside}
 
 -- a request of the share is done, unless the CREATE before it refuses it
@@ -55,14 +57,18 @@ abbrev pub can_do : Share → Option Plan → Bool
 can_do s None = false
 can_do s (Some p) = plan_is_free s p
 
--- the oldest of these can be served
-abbrev pub can_serve : Share → List Sent → Bool
-can_serve s [] = false
-can_serve s (one ∷ others) = can_do s (plan_of one)
+-- a request that was found can be served: it is the first of its frame, and what it asks for can be done
+abbrev pub can_take : Option Sent → Share → Bool
+can_take None s = false
+can_take (Some one) s = is_first_of_frame s.sent one && can_do s (plan_of one)
 
--- the oldest request that waits can be served
-unfoldable pub is_servable : Share → Bool
-is_servable s = can_serve s s.sent
+abbrev pub can_serve : Option Mid → Share → Bool
+can_serve None s = false
+can_serve (Some mid) s = can_take (sent_with mid s.sent) s
+
+-- the request with this number, of those that may be served, can be served
+unfoldable pub is_servable : Share → ℕ → Bool
+is_servable s n = can_serve (slice_get (waiting_ids s.sent) n) s
 
 -- what the reply says to a request of the connection itself
 abbrev pub said_under : Result Head HeadFault → List ℕ → Said

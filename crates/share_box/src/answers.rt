@@ -1,12 +1,13 @@
 //! Replies, each as a frame of its own.
 
-ghost use Rattle.std.specs.Prelude.{◌≡◌, IfOk};
+ghost use Rattle.std.specs.Prelude.{◌≡◌, true, IfOk};
 ghost use Rattle.smb_head.specs.Header.{head_of};
 ghost use Rattle.share_box.specs.Paid.{IsReplyTo};
-ghost use Rattle.share_box.specs.Answers.{is_first_message, said_session, said_aside, session_of, tree_of, reply_head, reply_of};
+ghost use Rattle.share_box.specs.Answers.{is_first_message, said_session, said_aside, session_of, tree_of, route_of, flags_of, pending, reply_head, reply_of, interim_of};
 
 use crate::bodies::{Said, put_body, status_of};
-use smb_base::{Bytes, NoMemory};
+use share_spec::{Rep, RepBody};
+use smb_base::{Bytes, NoMemory, Status};
 use smb_body_a::read_session_setup_request;
 use smb_chain::ChainBuilder;
 use smb_head::command::{NEGOTIATE, SESSION_SETUP, TREE_CONNECT};
@@ -80,35 +81,58 @@ fn tree_of(head: &Head) -> u32
     }
 }
 
+// The way of a reply: after an interim reply, and for that one itself, it is an asynchronous one, under the id of its message.
+fn route_of(head: &Head, pended: bool) -> Route
+    ensures { result ≡ route_of head.now pended }
+{
+    if pended {
+        Route::Async(head.mid.0)
+    } else {
+        Route::Sync(tree_of(head))
+    }
+}
+
+// The flags of a reply.
+fn flags_of(pended: bool) -> HeadFlags
+    ensures { result ≡ flags_of pended }
+{
+    if pended {
+        HeadFlags(HeadFlags::REPLY.0 | HeadFlags::ASYNC.0)
+    } else {
+        HeadFlags::REPLY
+    }
+}
+
 // The header of a reply.
-fn reply_head(head: &Head, credits: u16, said: &Said) -> Head
-    ensures { result ≡ reply_head head.now credits said.now }
+fn reply_head(head: &Head, credits: u16, pended: bool, said: &Said) -> Head
+    ensures { result ≡ reply_head head.now credits pended said.now }
 {
     Head {
         charge: head.charge,
         status: status_of(said),
         command: head.command,
         credits,
-        flags: HeadFlags::REPLY,
+        flags: flags_of(pended),
         next: 0,
         mid: head.mid,
-        route: Route::Sync(tree_of(head)),
+        route: route_of(head, pended),
         session: session_of(head),
     }
 }
 
-// The reply to a message, as a frame; no byte where the message has no header.
+// The reply to a message, as a frame; no byte where the message has no header. It is an asynchronous one where the message was put off.
 #[tactic(auto, unfolding(crate::specs::Answers::reply_of, smb_chain::specs::Chain::chain))]
 pub(crate) fn reply(
     alloc: Global,
     credits: u16,
+    pended: bool,
     message: &[u8],
     said: &Said,
 ) -> Result<Bytes, NoMemory>
-    ensures exact { IfOk result (λ f. f ≡ reply_of credits message.now said.now) }
+    ensures exact { IfOk result (λ f. f ≡ reply_of credits pended message.now said.now) }
 
     // It is one frame of one message, whose header and body are read again.
-    ensures again { IfOk result (λ f. IsReplyTo (head_of message.now) credits said.now f) }
+    ensures again { IfOk result (λ f. IsReplyTo (head_of message.now) credits pended said.now f) }
 {
     let Ok(head) = read_head(message) else {
         return Ok(Bytes::new(alloc));
@@ -116,6 +140,24 @@ pub(crate) fn reply(
     let mut body = Vec::new(alloc);
     put_body(alloc, &mut body, said)?;
     let mut chain = ChainBuilder::new(alloc);
-    chain.add(&reply_head(&head, credits, said), &body)?;
+    chain.add(&reply_head(&head, credits, pended, said), &body)?;
     chain.finish()
+}
+
+// The interim reply to a message (MS-SMB2 3.3.4.2), which grants nothing.
+pub(crate) fn interim(alloc: Global, message: &[u8]) -> Result<Bytes, NoMemory>
+    ensures exact { IfOk result (λ f. f ≡ interim_of message.now) }
+    ensures again { IfOk result (λ f. IsReplyTo (head_of message.now) 0 true pending f) }
+{
+    reply(alloc, 0, true, message, &pending())
+}
+
+// That a request was put off.
+fn pending() -> Said
+    ensures { result ≡ pending }
+{
+    Said::Share(Rep {
+        status: Status::PENDING,
+        body: RepBody::None,
+    })
 }

@@ -4,6 +4,8 @@
 mod answers;
 mod bodies;
 mod box_link;
+mod delay;
+mod order;
 mod requests;
 mod schedule;
 mod sending;

@@ -10,7 +10,8 @@ use std::marker::Model;
 /// What the share behind a [`BoxLink`](crate::BoxLink) does at a turn.
 #[derive(Debug, Drop)]
 pub enum Turn {
-    /// It does a request that waits; 0 is the oldest one.
+    /// It serves the oldest request of a frame: the one with this number, from 0 on, of the frames that wait. The oldest request of
+    /// each older frame is put off first, if it was not put off before: an interim reply to it comes.
     Serve(u32),
     /// It does this request of this client, which is not client 0.
     Act(u32, Req),

@@ -4,14 +4,16 @@ ghost use Rattle.std.specs.Prelude.{◌≡◌, true, None, IfOk, IfSome, OnErr, 
 ghost use Rattle.smb_head.specs.Header.{head_of};
 ghost use Rattle.share_spec.specs.Built.{is_built};
 ghost use Rattle.share_spec.specs.Reply.{of_status, map_fid};
+ghost use Rattle.share_spec.specs.Sent.{sent_with};
 ghost use Rattle.share_spec.specs.Step.{step_of};
 ghost use Rattle.fs_plain.specs.World.{us, followed, is_creating, refusal_before, refused_before, resolved, came_to, after_create};
 ghost use Rattle.share_box.specs.declared.bodies.Said.TheVariants as said;
 ghost use Rattle.share_box.specs.Paid.{GrantsNothing};
-ghost use Rattle.share_box.specs.Serving.{plan_by, plan_of, is_doable, plan_is_free, is_servable, said_under, stepped, done_by};
+ghost use Rattle.share_box.specs.Serving.{plan_by, plan_of, is_doable, plan_is_free, can_do, can_take, is_servable, said_under, stepped, done_by};
 
 use crate::answers::said_aside;
 use crate::bodies::Said;
+use crate::order::{find, is_first_of_frame, waiting_ids};
 use crate::requests::{ParsedRequest, what_is_asked};
 use share_spec::{LastCreate, Rep, RepBody, Req, Sent, SentList, Share, Who, conflicts, step};
 use smb_base::{Fid, Mid, NoMemory, Status};
@@ -124,16 +126,35 @@ fn is_free(alloc: Global, share: &Share, plan: &Plan) -> Result<bool, NoMemory>
     }
 }
 
-// The oldest request that waits can be done.
-#[tactic(auto, unfolding(crate::specs::Serving::is_servable))]
-pub(crate) fn is_servable(alloc: Global, share: &Share) -> Result<bool, NoMemory>
-    ensures { IfOk result (λ b. b ≡ is_servable share.now) }
+// What a request asks for can be done.
+fn can_do(alloc: Global, share: &Share, one: &Sent) -> Result<bool, NoMemory>
+    ensures { IfOk result (λ b. b ≡ can_do share.now (plan_of one.now)) }
 {
-    match share.sent.as_slice().first() {
-        Some(one) => match plan_for(alloc, one)? {
-            Some(plan) => is_free(alloc, share, &plan),
-            None => Ok(false),
-        },
+    match plan_for(alloc, one)? {
+        Some(plan) => is_free(alloc, share, &plan),
+        None => Ok(false),
+    }
+}
+
+// The request with this id can be served.
+fn can_serve(alloc: Global, share: &Share, mid: Mid) -> Result<bool, NoMemory>
+    ensures { IfOk result (λ b. b ≡ can_take (sent_with mid share.now.sent) share.now) }
+{
+    let sent = share.sent.as_slice();
+    match find(sent, mid) {
+        Some(one) => Ok(is_first_of_frame(sent, one) && can_do(alloc, share, one)?),
+        None => Ok(false),
+    }
+}
+
+// The request with this number, of those that may be served, can be served.
+#[tactic(auto, unfolding(crate::specs::Serving::is_servable))]
+pub(crate) fn is_servable(alloc: Global, share: &Share, number: u32) -> Result<bool, NoMemory>
+    ensures { IfOk result (λ b. b ≡ is_servable share.now number) }
+{
+    let mids = waiting_ids(alloc, share.sent.as_slice())?;
+    match mids.get(number as usize) {
+        Some(mid) => can_serve(alloc, share, *mid),
         None => Ok(false),
     }
 }

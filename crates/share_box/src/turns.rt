@@ -2,19 +2,23 @@
 
 ghost use Rattle.std.specs.Prelude.{◌≡◌, ◌+◌, ◌++◌, ◌∷◌, true, IfOk, OnOk, OnErr, length};
 ghost use Rattle.share_spec.specs.Built.{is_built};
+ghost use Rattle.share_spec.specs.Sent.{sent_with};
 ghost use Rattle.share_box.specs.declared.schedule.Turn.TheVariants as turn;
-ghost use Rattle.share_box.specs.Serving.{plan_of};
-ghost use Rattle.share_box.specs.Turns.{may_act, is_possible, must_pass, from_possible, last_turn, turn_of, served, served_as, answered_as, act_events, share_after_act, turned, ahead_in, at_connect};
-ghost use Rattle.share_box.specs.Paid.{AreProper, PaysAs, PaysFirst, ServesPaid};
+ghost use Rattle.share_box.specs.Order.{is_next};
+ghost use Rattle.share_box.specs.Serving.{is_servable, plan_of};
+ghost use Rattle.share_box.specs.Turns.{may_act, is_possible, must_pass, from_possible, last_turn, turn_of, served, served_at, served_as, answered_as, act_events, share_after_act, turned, ahead_in, at_connect};
+ghost use Rattle.share_box.specs.Paid.{AreProper, PaysAs};
 ghost use Rattle.share_box.specs.Truth.{Keeps, TookOrNot};
 ghost use Rattle.share_box.specs.Calls.{passed, gone_on, is_refused, GoesOn, Tells};
 
 use crate::answers::reply;
+use crate::delay::put_all_off;
+use crate::order::waiting_ids;
 use crate::schedule::Turn;
 use crate::serving::{do_plan, is_servable, plan_for, request};
 use crate::state::State;
 use share_spec::{Req, Sent, Share, Who, conflicts};
-use smb_base::NoMemory;
+use smb_base::{Mid, NoMemory};
 use smb_link::{Event, EventList};
 use std::alloc::Global;
 
@@ -33,13 +37,7 @@ fn is_possible(alloc: Global, share: &Share, turn: &Turn) -> Result<bool, NoMemo
     ensures { IfOk result (λ x. x ≡ is_possible share.now turn.now) }
 {
     match turn {
-        Turn::Serve(number) => {
-            if *number == 0 {
-                is_servable(alloc, share)
-            } else {
-                Ok(false)
-            }
-        }
+        Turn::Serve(number) => is_servable(alloc, share, *number),
         Turn::Act(who, r) => may_act(alloc, share, *who, r),
         Turn::Cut => Ok(true),
         Turn::Quiet => Ok(true),
@@ -75,7 +73,7 @@ fn last_turn(alloc: Global, share: &Share) -> Result<Turn, NoMemory>
     ensures exact { IfOk result (λ t. t ≡ last_turn share.now) }
     ensures possible { IfOk result (λ t. is_possible share.now t ≡ true) }
 {
-    if is_servable(alloc, share)? {
+    if is_servable(alloc, share, 0)? {
         Ok(Turn::Serve(0))
     } else {
         Ok(Turn::Quiet)
@@ -97,18 +95,33 @@ pub(crate) fn next_turn(alloc: Global, b: &mut State) -> Result<Turn, NoMemory>
     }
 }
 
-// Does the oldest request that waits.
-fn serve_first(alloc: Global, b: &mut State) -> Result<(), NoMemory>
-    ensures ok { OnOk result (b.new ≡ served b.old.share.sent b.old) }
+// Serves the request with this number, of those that may be served. Those of older frames are put off first, each of them once.
+fn serve_number(alloc: Global, b: &mut State, number: u32) -> Result<(), NoMemory>
+    requires { is_servable b.old.share number ≡ true }
+    ensures ok { OnOk result (b.new ≡ served number b.old) }
     ensures goes { GoesOn b.old b.new }
-    ensures pays { OnOk result (PaysFirst b.old.share.sent b.old) }
     ensures keeps { Keeps result b.old b.new }
 {
-    match b.share.sent.take_first() {
-        Some(one) => {
-            b.share.sent.remove(one.mid);
-            serve(alloc, b, &one)
+    let mids = waiting_ids(alloc, b.share.sent.as_slice())?;
+    let number = number as usize;
+    match mids.get(number) {
+        Some(mid) => {
+            put_all_off(alloc, b, &mids[..number])?;
+            serve_id(alloc, b, *mid)
         }
+        None => Ok(()),
+    }
+}
+
+// Serves the request with this id.
+fn serve_id(alloc: Global, b: &mut State, mid: Mid) -> Result<(), NoMemory>
+    requires { is_next (sent_with mid b.old.share.sent) b.old.share.sent ≡ true }
+    ensures ok { OnOk result (b.new ≡ served_at mid b.old) }
+    ensures goes { GoesOn b.old b.new }
+    ensures keeps { Keeps result b.old b.new }
+{
+    match b.share.sent.take(mid) {
+        Some(one) => serve(alloc, b, &one),
         None => Ok(()),
     }
 }
@@ -136,7 +149,7 @@ fn answer(alloc: Global, b: &mut State, one: &Sent) -> Result<(), NoMemory>
     match plan_for(alloc, one)? {
         Some(plan) => {
             let said = do_plan(alloc, &mut b.share, one, &plan)?;
-            let frame = reply(alloc, b.credits, one.message.as_slice(), &said)?;
+            let frame = reply(alloc, b.credits, one.pended, one.message.as_slice(), &said)?;
             b.waiting.add(frame.as_slice())
         }
         None => Ok(()),
@@ -168,9 +181,6 @@ pub(crate) fn do_turn(alloc: Global, b: &mut State, turn: Turn) -> Result<(), No
     ensures ok { OnOk result (b.new ≡ turned turn b.old) }
     ensures goes { GoesOn b.old b.new }
 
-    // Where a request is served, its reply pays what is owed for it.
-    ensures pays { OnOk result (ServesPaid turn b.old) }
-
     // The requests that wait stay proper.
     ensures proper { OnOk result (AreProper b.old.share.sent → AreProper b.new.share.sent) }
 
@@ -178,7 +188,7 @@ pub(crate) fn do_turn(alloc: Global, b: &mut State, turn: Turn) -> Result<(), No
     ensures keeps { Keeps result b.old b.new }
 {
     match turn {
-        Turn::Serve(_) => serve_first(alloc, b),
+        Turn::Serve(number) => serve_number(alloc, b, number),
         Turn::Act(who, r) => act(alloc, &mut b.share, &mut b.story, who, r),
         _ => Ok(()),
     }

@@ -3,3 +3,4 @@ mod Rows
 pub mod Cuts
 pub mod Plainly
 pub mod Most
+pub mod SentLaws

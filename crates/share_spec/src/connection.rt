@@ -1,7 +1,7 @@
 //! The connection: what was sent and not taken, what is owed and not got, and what will be granted.
 
-ghost use Rattle.std.specs.Prelude.{◌≡◌, ◌++◌, ◌∷◌, [], OnOk, OnErr, MatchOption, map};
-ghost use Rattle.share_spec.specs.Sent.{behind_create, sent_but};
+ghost use Rattle.std.specs.Prelude.{◌≡◌, ◌<◌, ◌++◌, ◌∷◌, [], None, OnOk, OnErr, MatchOption, map, length, slice_get};
+ghost use Rattle.share_spec.specs.Sent.{behind_create, put_off, sent_but, sent_with};
 
 use crate::request::Rep;
 use smb_base::{Bytes, Fid, Key, Mid, NoMemory, Status};
@@ -98,21 +98,21 @@ impl SentList {
         Ok(())
     }
 
-    /// Takes the oldest one off.
-    pub fn take_first(&mut self) -> Option<Sent>
-        ensures { MatchOption result ((self.old ≡ []) × (self.new ≡ [])) (λ first. self.old ≡ first ∷ self.new) }
+    /// Takes off the first one with this id, and drops every other one with it.
+    pub fn take(&mut self, mid: Mid) -> Option<Sent>
+        ensures first { result ≡ sent_with mid self.old }
+        ensures others { self.new ≡ sent_but mid self.old }
     {
-        if self.held.is_empty() {
-            return None;
-        }
-        Some(self.held.remove(0))
+        let first = take_from(&mut self.held, mid);
+        remove_from(&mut self.held, mid);
+        first
     }
 
-    /// Takes each one with this id off.
-    pub fn remove(&mut self, mid: Mid)
-        ensures { self.new ≡ sent_but mid self.old }
+    /// Has each message with this id be one to which an interim reply was owed.
+    pub fn put_off(&mut self, mid: Mid)
+        ensures { self.new ≡ map (put_off mid) self.old }
     {
-        remove_from(&mut self.held, mid);
+        put_off_in(&mut self.held, mid);
     }
 
     /// Has each message of the frame whose first message has this id know what the last CREATE before it came to.
@@ -120,6 +120,29 @@ impl SentList {
         ensures { self.new ≡ map (behind_create frame last) self.old }
     {
         tell_in(&mut self.held, frame, last);
+    }
+}
+
+// Where the first message with this id is.
+fn place_of(sent: &[Sent], mid: Mid) -> Option<usize>
+    ensures { MatchOption result (sent_with mid sent.now ≡ None) (λ at. (at < length sent.now) × (sent_with mid sent.now ≡ slice_get sent.now at)) }
+{
+    for (at, one) in sent.iter().enumerate() {
+        if one.mid.0 == mid.0 {
+            return Some(at);
+        }
+    }
+    None
+}
+
+// Takes the first message with this id off.
+fn take_from(sent: &mut Vec<Sent>, mid: Mid) -> Option<Sent>
+    ensures first { result ≡ sent_with mid sent.old.items }
+    ensures others { sent_but mid sent.new.items ≡ sent_but mid sent.old.items }
+{
+    match place_of(sent, mid) {
+        Some(at) => Some(sent.remove(at)),
+        None => None,
     }
 }
 
@@ -146,6 +169,25 @@ fn tell_one(one: &mut Sent, frame: Mid, last: LastCreate)
 {
     if one.frame.0 == frame.0 {
         one.last_create = last;
+    }
+}
+
+// Has each message with this id be one to which an interim reply was owed.
+#[tactic(auto, using(std::proofs::lemmas::List::Edits::map_over_more))]
+fn put_off_in(sent: &mut [Sent], mid: Mid)
+    ensures { sent.new ≡ map (put_off mid) sent.old }
+{
+    for one in sent.iter_mut() {
+        put_off_one(one, mid);
+    }
+}
+
+// Has this message be one, where it has the id.
+fn put_off_one(one: &mut Sent, mid: Mid)
+    ensures { one.new ≡ put_off mid one.old }
+{
+    if one.mid.0 == mid.0 {
+        one.pended = true;
     }
 }
 

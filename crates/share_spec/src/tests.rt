@@ -86,7 +86,7 @@ fn a_delete_breaks_a_lease_and_a_cut_ends_it(rt: HostRuntime) {
 }
 
 #[test]
-fn what_was_sent_is_taken_in_order(rt: HostRuntime) {
+fn what_was_sent_is_taken_and_put_off_by_its_id(rt: HostRuntime) {
     let mut sent = SentList::new(rt.alloc());
     for mid in [1, 2, 3] {
         let one = Sent {
@@ -98,11 +98,13 @@ fn what_was_sent_is_taken_in_order(rt: HostRuntime) {
         };
         assert!(rt; sent.push(one).is_ok());
     }
-    assert!(rt; matches!(sent.take_first(), Some(one) if one.mid == Mid(1)));
-    sent.remove(Mid(2));
+    assert!(rt; matches!(sent.take(Mid(2)), Some(one) if one.mid == Mid(2)));
+    assert!(rt; sent.take(Mid(2)).is_none());
+    sent.put_off(Mid(3));
     sent.tell_create(Mid(1), LastCreate::Refused(Status(7)));
     assert!(rt;
-        matches!(sent.as_slice(), [one] if matches!(one.last_create, LastCreate::Refused(_)))
+        matches!(sent.as_slice(), [one, other] if !one.pended && other.pended
+            && matches!(one.last_create, LastCreate::Refused(_)))
     );
 }
 
