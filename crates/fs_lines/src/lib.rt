@@ -4,8 +4,6 @@
 mod lines;
 mod next;
 mod search;
-#[cfg(test)]
-mod tests;
 
 pub use lines::Lines;
 pub use next::NextLine;

@@ -5,8 +5,6 @@ mod answer;
 mod line;
 mod name;
 mod path;
-#[cfg(test)]
-mod tests;
 
 pub use answer::{answer_line, answer_text};
 pub use line::{Line, LineFault, read_line};

@@ -5,8 +5,6 @@ mod answer;
 mod call;
 mod names;
 mod options;
-#[cfg(test)]
-mod tests;
 
 pub use answer::{Answer, Listing, StatOf};
 pub use call::{Call, Fd};

@@ -370,6 +370,11 @@ opens_left : map (λ (o : Open). o.number) (after_cut (after (start false) befor
 unfolding components
 opens_left = refl
 
+-- with the last open of its file a lease ends
+leases_left : (on_f on_g : Key) → (after_cut (leased on_f on_g)).leases ≡ []
+unfolding components
+leases_left on_f on_g = refl
+
 abbrev behind_cut : Told
 behind_cut =
     (us, req.Close (fid_of 7), of_status 0xC0000128)

@@ -20,8 +20,6 @@ mod query;
 mod request;
 mod run;
 mod share;
-#[cfg(test)]
-mod tests;
 
 pub use breaks::conflicts;
 pub use connection::{Grant, GrantList, LastCreate, Owed, OwedList, Sent, SentList};

@@ -5,8 +5,6 @@
 mod errno;
 mod lists;
 mod names;
-#[cfg(test)]
-mod tests;
 mod text;
 
 pub use errno::errno_of;

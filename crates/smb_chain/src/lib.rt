@@ -6,6 +6,3 @@ mod parts;
 
 pub use builder::{ChainBuilder, Message};
 pub use parts::{BadNext, Parts, first_part, split};
-
-#[cfg(test)]
-mod tests;

@@ -4,6 +4,3 @@
 mod window;
 
 pub use window::{NO_REQUEST, Window};
-
-#[cfg(test)]
-mod tests;

@@ -3,8 +3,6 @@
 
 mod field;
 mod read;
-#[cfg(test)]
-mod tests;
 mod write;
 
 pub use field::{BodyFault, Field, Places};

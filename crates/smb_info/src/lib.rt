@@ -7,8 +7,6 @@ mod change;
 mod entries;
 mod fault;
 mod space;
-#[cfg(test)]
-mod tests;
 
 pub use attributes::{
     All, Basic, Internal, Standard, read_all, read_basic, read_internal, read_standard, write_all,

@@ -3,8 +3,6 @@
 
 mod fields;
 mod flags;
-#[cfg(test)]
-mod tests;
 
 pub use fields::{get_u16, get_u32, get_u64, put_u16, put_u32, put_u64};
 pub use flags::{HeadFlags, ServerCaps};

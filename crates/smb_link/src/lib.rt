@@ -9,8 +9,6 @@ mod list_link;
 mod mark;
 mod sinks;
 mod sources;
-#[cfg(test)]
-mod tests;
 mod traits;
 
 pub use adapters::{HostClock, ReadSource, TcpLink, WriteSink};

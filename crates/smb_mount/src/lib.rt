@@ -7,8 +7,6 @@ mod fault;
 mod replies;
 mod requests;
 mod states;
-#[cfg(test)]
-mod tests;
 
 pub use facts::Facts;
 pub use fault::MountFault;

@@ -15,6 +15,3 @@ pub use mux::{Mux, Ticket};
 pub use send::frame_len;
 pub use smb_head::Request;
 pub use taken::{BreakNote, BreakNoteList, MidList, Reply, ReplyList, Taken};
-
-#[cfg(test)]
-mod tests;

@@ -7,8 +7,6 @@ mod fault;
 mod map;
 mod name;
 mod path;
-#[cfg(test)]
-mod tests;
 
 pub use fault::NameFault;
 pub use map::NameMap;

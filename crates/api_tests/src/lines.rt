@@ -1,4 +1,6 @@
-use super::*;
+//! Lines of a source, of which some are no text and some reads fail.
+
+use fs_lines::{Lines, NextLine};
 use smb_base::{Bytes, U64List};
 use smb_link::{Failed, MemSource, Source, SureSource};
 use std::process::Abort;
@@ -53,35 +55,6 @@ fn lines_come_byte_by_byte_and_one_that_is_not_text_is_refused(rt: HostRuntime) 
     assert!(rt; matches!(lines.next(&mut source), NextLine::End));
     assert!(rt; matches!(lines.next(&mut source), NextLine::End));
     assert_eq!(rt; lines.number(), 4);
-}
-
-// A line of the greatest length, and then these bytes.
-fn long(rt: &(impl Abort + AllocGlobal), then: &[u8]) -> SureSource {
-    let mut text = Bytes::new(rt.alloc());
-    for _ in 0..MAX_LINE / 60 {
-        assert!(rt; text.extend(&[b'x'; 60]).is_ok());
-    }
-    assert_eq!(rt; text.len(), MAX_LINE);
-    assert!(rt; text.extend(then).is_ok());
-    SureSource::new(text)
-}
-
-#[test]
-fn the_longest_line_is_given_and_a_longer_one_refused_for_good(rt: HostRuntime) {
-    for then in [b"".as_slice(), b"\n", b"\nnext"] {
-        let mut lines = Lines::new(rt.alloc());
-        match lines.next(&mut long(&rt, then)) {
-            NextLine::Line(line) => assert_eq!(rt; line.len(), MAX_LINE),
-            _ => panic!(rt; "no line"),
-        }
-    }
-    for then in [b"x".as_slice(), b"x\n", b"x\nnext", b"\xff\n"] {
-        let mut source = long(&rt, then);
-        let mut lines = Lines::new(rt.alloc());
-        assert!(rt; matches!(lines.next(&mut source), NextLine::TooLong));
-        assert_eq!(rt; lines.number(), 1);
-        assert!(rt; matches!(lines.next(&mut source), NextLine::TooLong));
-    }
 }
 
 #[test]

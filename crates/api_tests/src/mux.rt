@@ -1,9 +1,9 @@
 //! Frames byte by byte, as MS-SMB2 2.2.1 and the bodies' own sections have them.
 
-use super::*;
 use smb_base::{Bytes, Key, Mid, NoMemory};
 use smb_field::BodyFault;
 use smb_head::HeadFault;
+use smb_mux::{Malformed, Mux, Request, SubmitFault, TakeFault, Taken, Ticket, frame_len};
 use std::process::Abort;
 
 // A reply to an ECHO (MS-SMB2 2.2.29) with id 0, and an interim reply to one with id 1, which grants 2 credits.

@@ -1,4 +1,6 @@
-use super::*;
+//! A copy of a call and of an answer says the same.
+
+use fs_types::{Answer, Call, Fd, Kind, Listing, NameList};
 use smb_base::{Bytes, Errno, Text};
 use std::process::Abort;
 
@@ -8,27 +10,6 @@ fn text(rt: &(impl Abort + AllocGlobal), s: &str) -> Text {
 
 fn bytes(rt: &(impl Abort + AllocGlobal), b: &[u8]) -> Bytes {
     Bytes::of(rt.alloc(), b).expect(rt, "memory")
-}
-
-#[test]
-fn names_keep_their_kinds(rt: HostRuntime) {
-    let mut names = NameList::new(rt.alloc());
-    assert_eq!(rt; names.as_slice().len(), 0);
-    for (name, kind) in [("a.txt", Kind::File), ("src", Kind::Dir), ("l", Kind::Link)] {
-        assert!(rt; names.push(text(&rt, name), kind).is_ok());
-    }
-    let copy = NameList::of(rt.alloc(), names.as_slice()).expect(&rt, "memory");
-    drop(names);
-    let listing = Listing {
-        names: copy,
-        bad: 0,
-    };
-    let shown = listing.names.as_slice();
-    assert_eq!(rt; shown.len(), 3);
-    assert_eq!(rt; shown[0].0.as_str(), "a.txt");
-    assert_eq!(rt; shown[1].1, Kind::Dir);
-    assert_eq!(rt; shown[2].0.as_str(), "l");
-    assert_eq!(rt; shown[2].1, Kind::Link);
 }
 
 #[test]
