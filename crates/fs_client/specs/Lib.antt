@@ -1,0 +1,11 @@
+pub mod Item
+pub mod View
+pub mod Asked
+pub mod Looks
+pub mod Owing
+pub mod After
+pub mod Flies
+pub mod Spelled
+pub mod Mount
+pub mod May
+pub mod Sane
