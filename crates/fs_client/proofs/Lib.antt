@@ -1,0 +1,11 @@
+pub mod Lists
+pub mod Flights
+pub mod Chains
+pub mod Landing
+pub mod Frames
+pub mod Begins
+pub mod Marks
+pub mod Answers
+pub mod Connections
+pub mod Sends
+pub mod Stays
