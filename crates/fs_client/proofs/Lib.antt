@@ -1,6 +1,7 @@
 pub mod Lists
 pub mod Flights
 pub mod Chains
+pub mod StatChain
 pub mod Landing
 pub mod Frames
 pub mod Begins
@@ -9,3 +10,7 @@ pub mod Answers
 pub mod Connections
 pub mod Sends
 pub mod Stays
+mod Spellings
+mod Stories
+mod Comings
+mod WrongClients

@@ -1,4 +1,4 @@
-mod Frames
+pub mod Frames
 mod HonestStory
 mod MendedStories
 mod BrokenStories
