@@ -14,3 +14,6 @@ mod Spellings
 mod Stories
 mod Comings
 mod WrongClients
+pub mod Keeping
+pub mod Steps
+pub mod Taken

@@ -155,7 +155,7 @@ whole_ids a frame v whole ids =
     begins (Err bad ∷ parts) ids = absurd ids
     begins (Ok message ∷ parts) ids = ids.0 ∙ sym whole.first
 
-owners_are : (a : Announcement) (frame : List ℕ) (v : View) → IsWhole a frame v → AreNext v.next (parts_sent frame)
+pub owners_are : (a : Announcement) (frame : List ℕ) (v : View) → IsWhole a frame v → AreNext v.next (parts_sent frame)
     → owned_in (mids_in frame) (a ∷ []) ++ owners_left frame v ≡ map (owner_by a) (mids_in frame) ++ owners_left frame v
 owners_are a frame v whole ids =
     ap (λ (mids : List Mid). (map (owner_by a) mids ++ []) ++ owners_left frame v) (whole_ids a frame v whole ids) ∙ ap (λ (os : List Owner). os ++ owners_left frame v) (append-nil (map (owner_by a) (mids_in frame)))

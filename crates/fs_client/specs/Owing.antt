@@ -23,9 +23,10 @@ pub record IsDueTo (v : View) (request : List ℕ) (reply : Rep) (x : Sent) : Ty
   pub first : is_first_of_frame v.flights x ≡ true
   pub fit : fits x (masked request reply) ≡ true
 
--- one to a request of the connection itself is one that no call has
+-- one to a request of the connection itself is one that no call has, the first of its frame too
 pub record IsDueAside (v : View) (request : List ℕ) (x : Sent) : Type 0 where
   pub message : x.message ≡ request
+  pub first : is_first_of_frame v.flights x ≡ true
   pub aside : wire_request x.message ≡ Some WireRequest.Aside
   pub nobodys : owner_of x.mid v.told.owners ≡ None
 
