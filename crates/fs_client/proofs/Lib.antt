@@ -17,3 +17,4 @@ mod WrongClients
 pub mod Keeping
 pub mod Steps
 pub mod Taken
+pub mod Bodies

@@ -1,10 +1,13 @@
 -- Clients that do what they may not.
-use Rattle.std.proofs.Common.{arith, ◌≡◌, ◌<◌, rules, sym, ap, ℕ, ◌==◌, max, bit_and, if◌then◌else◌, true, false, [], ◌∷◌, ◌++◌, List, Bool}
+use Rattle.std.proofs.Common.{arith, ◌≡◌, ◌<◌, ◌≤◌, rules, refl, sym, ap, ℕ, ◌==◌, max, bit_and, if◌then◌else◌, true, false, [], ◌∷◌, ◌++◌, List, Bool}
 use Rattle.std.proofs.lemmas.Bool.{false≢true}
-use Rattle.std.specs.Prelude.{take}
+use Rattle.std.specs.Prelude.{codes, take}
 use Rattle.std.specs.Str.{chars}
 use Rattle.share_spec.specs.Names.{components}
 use Rattle.fs_types.specs.declared.answer.Answer.{Answer}
+use Rattle.fs_types.specs.declared.call.Call.TheVariants as call
+use Rattle.smb_base.specs.declared.names.Mid.{Mid}
+use Rattle.smb_link.specs.declared.event.Event.{Event}
 use Rattle.smb_link.specs.declared.event.Event.TheVariants as event
 use Rattle.smb_link.specs.declared.mark.Mark.TheVariants as mark
 use Rattle.smb_le.specs.Numbers.{number_at}
@@ -17,10 +20,11 @@ use Rattle.smb_names.specs.WireName as name
 use Rattle.fs_plain.specs.Requests.{wire_request}
 use Rattle.fs_plain.specs.Replies.{reply_in, is_aside_reply}
 use Rattle.fs_plain.proofs.Frames.{opened_frame, both_frame, chain_frame}
-use Rattle.fs_client.specs.Item.{Item}
-use Rattle.fs_client.specs.May.{Mounting, Echo, LeavingTree, LeavingSession, May}
-use Rattle.fs_client.proofs.Stories.{mid, s, begins, begins_other, announces, crossed}
-use Rattle.fs_client.proofs.Comings.{at, sent}
+use Rattle.fs_client.specs.View.{Exchange, Client}
+use Rattle.fs_client.specs.After.{all_after}
+use Rattle.fs_client.specs.May.{IsLeavingTree, Mounting, Echo, LeavingTree, LeavingSession, May}
+use Rattle.fs_client.proofs.Stories.{mounted_by, mid, s, begins, begins_other, announces, crossed}
+use Rattle.fs_client.proofs.Comings.{sent}
 
 zero_three : ◌≡◌ {A = ℕ} 0 3 → ⊥
 zero_three is = omega (arith, is)
@@ -32,38 +36,72 @@ enough : (b : Bool) → 32 < max 1 (if b then 1 else 0) → ⊥
 enough true less = omega (arith, less)
 enough false less = omega (arith, less)
 
-some_none : (i : Item) (items : List Item) → i ∷ items ≡ [] → ⊥
-some_none i items is = search rules
+one_three : ◌≡◌ {A = ℕ} 1 3 → ⊥
+one_three is = omega (arith, is)
 
--- a second frame under an id that was used, also where the mark says so
-a_used_id : May s (at (sent ++ begins_other ∷ event.Marked (mark.For 2 (mid 3) 3) ∷ [])) (event.Sent chain_frame) → ⊥
+three_free : 3 ≤ 32
+three_free = omega arith
+
+some_none : {X : Type 0} {x : X} {xs : List X} → x ∷ xs ≡ [] → ⊥
+some_none is = search rules
+
+-- the client once these events happened on a share that was mounted by these exchanges
+abbrev pub done : List Exchange → List Event → Client
+done exchanges events = all_after s (mounted_by exchanges) events
+
+-- a second frame under an id that was used, also where the mark says otherwise
+a_used_id : (exchanges : List Exchange) → May s (done exchanges (sent ++ begins_other ∷ event.Marked (mark.For 2 (mid 3) 3) ∷ [])) (event.Sent chain_frame) → ⊥
 unfolding chars components wire_request reply_in is_aside_reply head_of head_at number_at first_of frames_in rest_in step_of parts_of read_of contexts_of set_of path.components path.after_part name.fault_of name.spelling
-a_used_id may = zero_three may.frame_is.next.0
+a_used_id exchanges may = zero_three may.frame_is.next.0
 
 -- nor may the mark say so
-a_used_id_announced : May s (at (sent ++ begins_other ∷ [])) (event.Marked (mark.For 2 (mid 0) 3)) → ⊥
+a_used_id_announced : (exchanges : List Exchange) → May s (done exchanges (sent ++ begins_other ∷ [])) (event.Marked (mark.For 2 (mid 0) 3)) → ⊥
 unfolding chars components wire_request reply_in is_aside_reply head_of head_at number_at first_of frames_in rest_in step_of parts_of read_of contexts_of set_of path.components path.after_part name.fault_of name.spelling
-a_used_id_announced may = zero_three (ap (λ m. m.0) may.next)
+a_used_id_announced exchanges may = zero_three (ap (λ (m : Mid). m.0) may.next)
 
 -- an answer before the last reply of the call, whatever it is
-before_the_last_reply : (a : Answer) → May s (at (sent ++ event.Got opened_frame ∷ [])) (event.Marked (mark.Answer 1 a)) → ⊥
+before_the_last_reply : (exchanges : List Exchange) (a : Answer) → May s (done exchanges (sent ++ event.Got opened_frame ∷ [])) (event.Marked (mark.Answer 1 a)) → ⊥
 unfolding chars components wire_request reply_in is_aside_reply head_of head_at number_at first_of frames_in rest_in step_of parts_of read_of contexts_of set_of path.components path.after_part name.fault_of name.spelling
-before_the_last_reply a may = false≢true (sym may.idle.0)
+before_the_last_reply exchanges a may = false≢true (sym may.idle.0)
 
 -- also where another call's replies came
-after_another_reply : (a : Answer) → May s (at (take 7 crossed)) (event.Marked (mark.Answer 1 a)) → ⊥
+after_another_reply : (exchanges : List Exchange) (a : Answer) → May s (done exchanges (take 7 crossed)) (event.Marked (mark.Answer 1 a)) → ⊥
 unfolding chars components wire_request reply_in is_aside_reply head_of head_at number_at first_of frames_in rest_in step_of parts_of read_of contexts_of set_of path.components path.after_part name.fault_of name.spelling
-after_another_reply a may = false≢true (sym may.idle.0)
+after_another_reply exchanges a may = false≢true (sym may.idle.0)
 
 -- a frame of two for a mark of three
-a_frame_of_two : May s (at (begins ∷ announces ∷ [])) (event.Sent both_frame) → ⊥
+a_frame_of_two : (exchanges : List Exchange) → May s (done exchanges (begins ∷ announces ∷ [])) (event.Sent both_frame) → ⊥
 unfolding chars components wire_request reply_in is_aside_reply head_of head_at number_at first_of frames_in rest_in step_of parts_of read_of contexts_of set_of path.components path.after_part name.fault_of name.spelling
-a_frame_of_two may = three_two may.count
+a_frame_of_two exchanges may = three_two may.count
+
+-- a stat's frame of one where three ids are free
+one_by_one : (exchanges : List Exchange) → May s (done exchanges (begins ∷ [])) (event.Marked (mark.For 1 (mid 0) 1)) → ⊥
+unfolding chars components wire_request reply_in is_aside_reply head_of head_at number_at first_of frames_in rest_in step_of parts_of read_of contexts_of set_of path.components path.after_part name.fault_of name.spelling
+one_by_one exchanges may = one_three (may.chained refl refl refl three_free)
+
+-- a second mark before the frame of the first
+two_marks : (exchanges : List Exchange) → May s (done exchanges (begins ∷ begins_other ∷ announces ∷ [])) (event.Marked (mark.For 2 (mid 0) 3)) → ⊥
+unfolding chars components wire_request reply_in is_aside_reply head_of head_at number_at first_of frames_in rest_in step_of parts_of read_of contexts_of set_of path.components path.after_part name.fault_of name.spelling
+two_marks exchanges may = some_none may.alone
+
+-- a frame for a call whose requests are in flight
+a_second_frame : (exchanges : List Exchange) (first : Mid) (count : ℕ) → May s (done exchanges sent) (event.Marked (mark.For 1 first count)) → ⊥
+unfolding chars components wire_request reply_in is_aside_reply head_of head_at number_at first_of frames_in rest_in step_of parts_of read_of contexts_of set_of path.components path.after_part name.fault_of name.spelling
+a_second_frame exchanges first count may = false≢true (sym may.idle.0)
+
+-- a call in a lane in which one runs
+a_taken_lane : (exchanges : List Exchange) → May s (done exchanges (begins ∷ [])) (event.Marked (mark.Begin 2 0 (call.Stat (codes "/b")))) → ⊥
+unfolding chars components wire_request reply_in is_aside_reply head_of head_at number_at first_of frames_in rest_in step_of parts_of read_of contexts_of set_of path.components path.after_part name.fault_of name.spelling
+a_taken_lane exchanges may = false≢true may.lane_free
 
 -- any frame without a mark while a call runs that waits for no id, a CLOSE among them
-without_a_mark : (frame : List ℕ) → May s (at (begins ∷ [])) (event.Sent frame) → ⊥
+without_a_mark : (exchanges : List Exchange) (frame : List ℕ) → May s (done exchanges (begins ∷ [])) (event.Sent frame) → ⊥
 unfolding chars components wire_request reply_in is_aside_reply head_of head_at number_at first_of frames_in rest_in step_of parts_of read_of contexts_of set_of path.components path.after_part name.fault_of name.spelling
-without_a_mark frame (Mounting m) = some_none _ _ m.no_call
-without_a_mark frame (Echo m) = enough (bit_and m.facts.caps.0 4 == 4) m.short
-without_a_mark frame (LeavingTree m) = some_none _ _ m.leaving.no_call
-without_a_mark frame (LeavingSession m) = some_none _ _ m.leaving.no_call
+without_a_mark exchanges frame (Mounting m) = some_none m.no_call
+without_a_mark exchanges frame (Echo m) = enough (bit_and m.facts.caps.0 4 == 4) m.short
+without_a_mark exchanges frame (LeavingTree m) = some_none m.leaving.no_call
+without_a_mark exchanges frame (LeavingSession m) = some_none m.leaving.no_call
+
+-- to leave the share before the end was said
+an_early_leave : (exchanges : List Exchange) (frame : List ℕ) → IsLeavingTree s (mounted_by exchanges) frame → ⊥
+an_early_leave exchanges frame m = false≢true m.leaving.over
