@@ -68,11 +68,12 @@ answer_stays s v number a i sane runs idle = record {
   sent = sane.sent;
   rising = sane.rising;
   early = sane.early;
+  no_place = sane.no_place;
   no_lease = sane.no_lease;
 }
   where
     still : (x : Sent) (o : Option Owner) → IsOwnedBy o v.items x → IsNotOf number o → IsOwnedBy o (items_but number v.items) x
-    still x None own free = all_filter (IsNotFrom x.frame) (λ (j : Item). not (j.number == number)) v.items own
+    still x None own free = record { aside = own.aside; elsewhere = all_filter (IsNotFrom x.frame) (λ (j : Item). not (j.number == number)) v.items own.elsewhere }
     still x (Some o) own free = subst (λ (p : Option Item). IsSomeAnd p (IsFrom o x)) (sym (item_but o.number number v.items free)) own
 
     both : (xs : List Sent) → AllByRecursion (IsOwned v.items v.told.owners) xs → AllByRecursion (IsFree number v.told.owners) xs → AllByRecursion (IsOwned (items_but number v.items) v.told.owners) xs

@@ -42,7 +42,7 @@ owned_append : (items : List Item) (j : Item) (owners : List Owner) (x : Sent) �
 owned_append items j owners x none own = by (owner_of x.mid owners) own
   where
     by : (o : Option Owner) → IsOwnedBy o items x → IsOwnedBy o (items ++ j ∷ []) x
-    by None own = all_append (IsNotFrom x.frame) items (j ∷ []) own ((λ is. none_some x.frame (sym none ∙ is)), tt)
+    by None own = record { aside = own.aside; elsewhere = all_append (IsNotFrom x.frame) items (j ∷ []) own.elsewhere ((λ is. none_some x.frame (sym none ∙ is)), tt) }
     by (Some o) own = item_append o.number items j (IsFrom o x) own
 
 pub begin_stays : (s : Setting) (v : View) (number lane : ℕ) (call : Call) → Sane v → list_all (λ line. nat_lt line.0 number) v.told.begun ≡ true
@@ -61,6 +61,7 @@ begin_stays s v number lane call sane above =
       sent = sane.sent;
       rising = sane.rising;
       early = sane.early;
+      no_place = sane.no_place;
       no_lease = sane.no_lease;
     }
   where

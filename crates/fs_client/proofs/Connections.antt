@@ -25,5 +25,6 @@ connection_sane stands v sane = record {
   sent = tt;
   rising = record {};
   early = tt;
+  no_place = sane.no_place;
   no_lease = sane.no_lease;
 }

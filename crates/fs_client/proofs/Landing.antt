@@ -108,12 +108,15 @@ pub rising_left : (x : Sent) (reply : Rep) (xs : List Sent) → AreRising xs →
 rising_left x reply xs rising = subst AreRising (sym (left_is x reply xs)) (rising_map (behind_it x reply) (sent_but x.mid xs) (it_mid x reply) (rising_but x.mid xs rising))
 
 -- a request that is owned stays so, where its id and frame stay
-pub owned_same : (items : List Item) (owners : List Owner) (x y : Sent) → y.mid ≡ x.mid → y.frame ≡ x.frame → IsOwned items owners x → IsOwned items owners y
-owned_same items owners x y mid frame own =
+pub owned_same : (items : List Item) (owners : List Owner) (x y : Sent) → y.mid ≡ x.mid → y.frame ≡ x.frame → y.message ≡ x.message → IsOwned items owners x → IsOwned items owners y
+owned_same items owners x y mid frame message own =
     subst (λ (m : Mid). IsOwnedBy (owner_of m owners) items y) (sym mid) (by (owner_of x.mid owners) own)
   where
     by : (o : Option Owner) → IsOwnedBy o items x → IsOwnedBy o items y
-    by None own = subst (λ (m : Mid). AllByRecursion (IsNotFrom m) items) (sym frame) own
+    by None own = record {
+      aside = ap wire_request message ∙ own.aside;
+      elsewhere = subst (λ (m : Mid). AllByRecursion (IsNotFrom m) items) (sym frame) own.elsewhere;
+    }
     by (Some o) own = some_more (IsFrom o x) (IsFrom o y) (item_with o.number items)
         (λ i from. record { frame = from.frame ∙ ap (λ (m : Mid). Some m) (sym frame); known = from.known }) own
 
@@ -132,12 +135,12 @@ owned_on n f goes items owners x own = by (owner_of x.mid owners) own
     ]
 
     by : (o : Option Owner) → IsOwnedBy o items x → IsOwnedBy o (on_item n f items) x
-    by None own = all_on (IsNotFrom x.frame) n f items (λ i not_from is. not_from (sym (goes.frame i) ∙ is)) own
+    by None own = record { aside = own.aside; elsewhere = all_on (IsNotFrom x.frame) n f items (λ i not_from is. not_from (sym (goes.frame i) ∙ is)) own.elsewhere }
     by (Some o) own = at o own
 
 pub owned_left : (items : List Item) (owners : List Owner) (x : Sent) (reply : Rep) (xs : List Sent) → AllByRecursion (IsOwned items owners) xs → AllByRecursion (IsOwned items owners) (left_by x reply xs)
 owned_left items owners x reply xs all =
-    all_left (IsOwned items owners) x reply xs (λ y own. owned_same items owners y (behind_it x reply y) (it_mid x reply y) (it_frame x reply y) own) all
+    all_left (IsOwned items owners) x reply xs (λ y own. owned_same items owners y (behind_it x reply y) (it_mid x reply y) (it_frame x reply y) (it_message x reply y) own) all
 
 -- an early reply to another request
 fits_same : (x y : Sent) (reply : Rep) → y.message ≡ x.message → fits x reply ≡ true → fits y reply ≡ true
@@ -297,6 +300,7 @@ went_sane v x reply sane there first fit = by (owner_of x.mid v.told.owners) (fo
       sent = sent_left v.next x reply v.flights sane.sent;
       rising = rising_left x reply v.flights sane.rising;
       early = all_early_left x reply v.flights v.early sane.early;
+      no_place = sane.no_place;
       no_lease = sane.no_lease;
     }
 
@@ -319,11 +323,12 @@ went_sane v x reply sane there first fit = by (owner_of x.mid v.told.owners) (fo
           sent = sent_left v.next x reply v.flights sane.sent;
           rising = rising_left x reply v.flights sane.rising;
           early = all_early_left x reply v.flights v.early sane.early;
+          no_place = sane.no_place;
           no_lease = sane.no_lease;
         }
 
     by : (o : Option Owner) → IsOwnedBy o v.items x → Sane (record v { items = advanced o (is_refused x) reply v.items; flights = left_by x reply v.flights; early = early_but x.mid v.early })
-    by None own = nobodys own
+    by None own = nobodys own.elsewhere
     by (Some o) own =
         subst (λ (is : List Item). Sane (record v { items = is; flights = left_by x reply v.flights; early = early_but x.mid v.early })) (sym (advanced_is o (is_refused x) reply v.items))
         (owners o own)
@@ -393,6 +398,7 @@ landed_sane v x reply sane there fit = by (is_first_of_frame v.flights x) refl
       rising = sane.rising;
       early = all_append (IsEarly v.flights) v.early ((x.mid, reply) ∷ []) sane.early
           (subst (λ (o : Option Sent). IsSomeAnd o (λ y. fits y reply ≡ true)) (sym there) fit, tt);
+      no_place = sane.no_place;
       no_lease = sane.no_lease;
     }
 
@@ -445,11 +451,12 @@ without_sane v m x sane at aside nobody = record {
   sent = all_filter (IsSent v.next) (λ (y : Sent). not (y.mid.0 == x.mid.0)) v.flights sane.sent;
   rising = rising_but x.mid v.flights sane.rising;
   early = early_free v.flights x.mid v.early (subst (λ (k : ℕ). is_early (record { 0 = k }) v.early ≡ false) (sym at.mid) at.fresh) sane.early;
+  no_place = sane.no_place;
   no_lease = sane.no_lease;
 }
   where
     not_from : AllByRecursion (IsNotFrom x.frame) v.items
-    not_from = subst (λ (o : Option Owner). IsOwnedBy o v.items x) nobody (found (IsOwned v.items v.told.owners) x.mid v.flights x at.there sane.owned).0
+    not_from = (subst (λ (o : Option Owner). IsOwnedBy o v.items x) nobody (found (IsOwned v.items v.told.owners) x.mid v.flights x at.there sane.owned).0).elsewhere
 
 -- a message is looked at
 pub looked_sane : (v : View) (message : List ℕ) → Sane v → Sane (looked message v)

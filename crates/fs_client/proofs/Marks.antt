@@ -38,7 +38,7 @@ pub owned_map : (h : Item → Item) → Leaves h → (items : List Item) (owners
 owned_map h leaves items owners x own = by (owner_of x.mid owners) own
   where
     by : (o : Option Owner) → IsOwnedBy o items x → IsOwnedBy o (map h items) x
-    by None own = all_map (IsNotFrom x.frame) (IsNotFrom x.frame) h items (λ i not_from is. not_from (sym (leaves.frame i) ∙ is)) own
+    by None own = record { aside = own.aside; elsewhere = all_map (IsNotFrom x.frame) (IsNotFrom x.frame) h items (λ i not_from is. not_from (sym (leaves.frame i) ∙ is)) own.elsewhere }
     by (Some o) own = subst (λ (p : Option Item). IsSomeAnd p (IsFrom o x)) (sym (item_map o.number h items leaves.number))
         (some_map (IsFrom o x) (IsFrom o x) h (item_with o.number items)
         (λ i from. record { frame = leaves.frame i ∙ from.frame; known = leaves.known i ∙ from.known }) own)
@@ -59,6 +59,7 @@ changed_sane v h t leaves tells sane = record {
   sent = sane.sent;
   rising = sane.rising;
   early = sane.early;
+  no_place = sane.no_place;
   no_lease = sane.no_lease;
 }
   where
@@ -110,5 +111,6 @@ told_sane v t tells sane = record {
   sent = sane.sent;
   rising = sane.rising;
   early = sane.early;
+  no_place = sane.no_place;
   no_lease = sane.no_lease;
 }

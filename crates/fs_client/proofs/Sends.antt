@@ -8,6 +8,7 @@ use Rattle.smb_chain.specs.declared.parts.BadNext.{BadNext}
 use Rattle.share_spec.specs.declared.connection.Sent.{Sent}
 use Rattle.share_spec.specs.declared.request.Rep.{Rep}
 use Rattle.fs_plain.specs.Differences.{mids_among, mids_in, from}
+use Rattle.fs_plain.specs.Requests.{WireRequest, wire_request}
 use Rattle.fs_plain.specs.World.{requests_in, sent_with}
 use Rattle.fs_plain.specs.Replay.{Owner, owner_of}
 use Rattle.fs_plain.specs.Told.{Announcement, owned_in, is_outside}
@@ -110,24 +111,29 @@ early_on frame v sane = all_more (IsEarly v.flights) (IsEarly (v.flights ++ requ
     by e (Some x) there holds = subst (λ (o : Option Sent). IsSomeAnd o (λ y. fits y e.1 ≡ true)) (sym (found_append e.0 v.flights (requests_in frame) x there)) holds
 
 -- a frame of no call
-pub unmarked_sane : (v : View) (frame : List ℕ) → Sane v → AreNext v.next (parts_sent frame) → 0 < length (parts_sent frame) → Sane (sent_as [] frame v)
-unmarked_sane v frame sane ids some =
+pub unmarked_sane : (v : View) (frame : List ℕ) → Sane v → AreNext v.next (parts_sent frame) → 0 < length (parts_sent frame)
+    → AllByRecursion (λ (x : Sent). wire_request x.message ≡ Some WireRequest.Aside) (requests_in frame) → Sane (sent_as [] frame v)
+unmarked_sane v frame sane ids some asides =
     let new = is_new frame v ids some in
     record {
       flies = both v.items sane.used sane.flies new;
       owned = all_append (IsOwned v.items (owners_left frame v)) v.flights (requests_in frame)
           (all_both (IsSent v.next) (IsOwned v.items v.told.owners) (IsOwned v.items (owners_left frame v)) v.flights (λ x sent own. old x sent own) sane.sent sane.owned)
-          (all_both (IsOf (frame_of frame) v.next (v.next + costs_among (parts_sent frame))) (λ (y : Sent). is_in y.mid.0 (mids_in frame) ≡ true) (IsOwned v.items (owners_left frame v)) (requests_in frame)
-          (λ y of is. subst (λ (o : Option Owner). IsOwnedBy o v.items y) (sym (owner_gone y.mid (mids_in frame) v.told.owners is))
-          (all_more (λ (i : Item). IsUsed v.next i.frame) (IsNotFrom y.frame) v.items
-          (λ i used here. not_used v.next i.frame y.frame used (equal_le y.frame.0 v.next (ap (λ (n : Mid). n.0) of.frame_is ∙ new.first)) here) sane.used))
-          new.of (are_in (frame_of frame) v.next (parts_sent frame) ids));
+          (all_both (IsOf (frame_of frame) v.next (v.next + costs_among (parts_sent frame))) (λ (y : Sent). (is_in y.mid.0 (mids_in frame) ≡ true) × (wire_request y.message ≡ Some WireRequest.Aside)) (IsOwned v.items (owners_left frame v)) (requests_in frame)
+          (λ y of is. subst (λ (o : Option Owner). IsOwnedBy o v.items y) (sym (owner_gone y.mid (mids_in frame) v.told.owners is.0)) (record {
+            aside = is.1;
+            elsewhere = all_more (λ (i : Item). IsUsed v.next i.frame) (IsNotFrom y.frame) v.items
+                (λ i used here. not_used v.next i.frame y.frame used (equal_le y.frame.0 v.next (ap (λ (n : Mid). n.0) of.frame_is ∙ new.first)) here) sane.used;
+          }))
+          new.of (all_both (λ (y : Sent). is_in y.mid.0 (mids_in frame) ≡ true) (λ (y : Sent). wire_request y.message ≡ Some WireRequest.Aside)
+          (λ (y : Sent). (is_in y.mid.0 (mids_in frame) ≡ true) × (wire_request y.message ≡ Some WireRequest.Aside)) (requests_in frame) (λ y is aside. (is, aside)) (are_in (frame_of frame) v.next (parts_sent frame) ids) asides));
       apart = sane.apart;
       used = all_more (λ (i : Item). IsUsed v.next i.frame) (λ (i : Item). IsUsed (v.next + costs_among (parts_sent frame)) i.frame) v.items (λ i used. used_on frame v new i.frame used) sane.used;
       begun = sane.begun;
       sent = sent_on frame v new sane;
       rising = rising_on frame v ids new sane;
       early = early_on frame v sane;
+      no_place = sane.no_place;
       no_lease = sane.no_lease;
     }
   where
@@ -187,6 +193,7 @@ marked_sane v a frame i sane ids some whole runs idle asks =
       sent = sent_on frame v new sane;
       rising = rising_on frame v ids new sane;
       early = early_on frame v sane;
+      no_place = sane.no_place;
       no_lease = sane.no_lease;
     })
   where
@@ -213,7 +220,7 @@ marked_sane v a frame i sane ids some whole runs idle asks =
         by false there deeper = (others_stay frame v new j used.0 f.0, deeper there used.1 f.1)
 
     still : IsNew frame v → (x : Sent) → IsSent v.next x → (o : Option Owner) → IsOwnedBy o v.items x → IsNotOf a.number o → IsOwnedBy o (on_item a.number (flown (frame_of frame) a.known) v.items) x
-    still new x sent None own free = all_on (IsNotFrom x.frame) a.number (flown (frame_of frame) a.known) v.items (λ j not_from is. away is) own
+    still new x sent None own free = record { aside = own.aside; elsewhere = all_on (IsNotFrom x.frame) a.number (flown (frame_of frame) a.known) v.items (λ j not_from is. away is) own.elsewhere }
       where
         away : Some (frame_of frame) ≡ Some x.frame → ⊥
         away is = lower (frame_of frame).0 x.frame.0 (ap (λ (m : Mid). m.0) (some_is (frame_of frame) x.frame is)) sent.1 (low new)

@@ -23,7 +23,7 @@ use Rattle.fs_client.specs.Item.{Item, Asking, NotAsked, Asked, Acknowledging, L
 use Rattle.fs_client.specs.View.{Setting, Exchange, Client}
 use Rattle.fs_client.specs.After.{frame_of, after}
 use Rattle.fs_client.specs.Flies.{FliesAs, files_of, IsIdle}
-use Rattle.fs_client.specs.Spelled.{request_for, ids_for, echo, next_mid, free_ids, IsFrameOf}
+use Rattle.fs_client.specs.Spelled.{request_for, ids_for, echo, next_mid, free_ids, IsFrameOf, IsAsideFrame}
 use Rattle.fs_client.specs.Mount.{Stage, Mounted, HasCome, asked_at}
 
 -- a break of a lease that was told is acknowledged
@@ -120,7 +120,7 @@ pub record IsMounting (s : Setting) (c : Client) (frame : List ℕ) : Type 0 whe
   pub asks : asked_at stage ≡ Some request
   pub no_call : c.view.items ≡ []
   pub quiet : c.view.flights ≡ []
-  pub frame_is : IsFrameOf (request ∷ []) c frame
+  pub frame_is : IsAsideFrame request c frame
 
 -- An ECHO asks for more ids, where nothing is in flight and the next request of a call costs more than are free.
 pub record IsEcho (s : Setting) (c : Client) (frame : List ℕ) : Type 0 where
@@ -133,7 +133,7 @@ pub record IsEcho (s : Setting) (c : Client) (frame : List ℕ) : Type 0 where
   pub wish : Wish
   pub waits : StartsWith wish (settled c.view.told.known item.rest)
   pub short : free_ids c < ids_for facts wish
-  pub frame_is : IsFrameOf (echo facts ∷ []) c frame
+  pub frame_is : IsAsideFrame (echo facts) c frame
 
 -- a request of this command was answered on this connection
 abbrev pub was_answered : ℕ → List Exchange → Bool
@@ -152,7 +152,7 @@ pub record IsLeavingTree (s : Setting) (c : Client) (frame : List ℕ) : Type 0 
   pub facts : Facts
   pub leaving : IsLeaving s c facts
   pub once : was_answered TREE_DISCONNECT c.tally.exchanges ≡ false
-  pub frame_is : IsFrameOf (tree_disconnect facts ∷ []) c frame
+  pub frame_is : IsAsideFrame (tree_disconnect facts) c frame
 
 -- Leaving asks to end the session, once, behind that.
 pub record IsLeavingSession (s : Setting) (c : Client) (frame : List ℕ) : Type 0 where
@@ -160,7 +160,7 @@ pub record IsLeavingSession (s : Setting) (c : Client) (frame : List ℕ) : Type
   pub leaving : IsLeaving s c facts
   pub behind : was_answered TREE_DISCONNECT c.tally.exchanges ≡ true
   pub once : was_answered LOGOFF c.tally.exchanges ≡ false
-  pub frame_is : IsFrameOf (logoff facts ∷ []) c frame
+  pub frame_is : IsAsideFrame (logoff facts) c frame
 
 -- The requests without a mark are of these kinds. Acknowledging, flushing, closing and reclaiming are to come.
 pub data Unmarked (s : Setting) (c : Client) (frame : List ℕ) : Type 0 where

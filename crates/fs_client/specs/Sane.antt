@@ -4,6 +4,7 @@ use Rattle.std.specs.List.{AllByRecursion}
 use Rattle.smb_base.specs.declared.names.Mid.{Mid}
 use Rattle.share_spec.specs.declared.connection.Sent.{Sent}
 use Rattle.share_spec.specs.declared.request.Rep.{Rep}
+use Rattle.fs_plain.specs.Requests.{WireRequest, wire_request}
 use Rattle.fs_plain.specs.Replay.{Owner, owner_of}
 use Rattle.fs_plain.specs.Told.{Told, was_begun}
 use Rattle.fs_plain.specs.World.{sent_with}
@@ -21,9 +22,14 @@ pub record IsFrom (o : Owner) (x : Sent) (i : Item) : Type 0 where
   pub frame : i.frame ≡ Some x.frame
   pub known : i.known ≡ o.known
 
--- a request in flight is a running call's, or no call's, in a frame of its own
+-- a request of no call is one of the connection itself, in a frame that no call has sent
+pub record IsNobodys (items : List Item) (x : Sent) : Type 0 where
+  pub aside : wire_request x.message ≡ Some WireRequest.Aside
+  pub elsewhere : AllByRecursion (IsNotFrom x.frame) items
+
+-- a request in flight is a running call's, or no call's
 abbrev pub IsOwnedBy : Option Owner → List Item → Sent → Type 0
-IsOwnedBy None items x = AllByRecursion (IsNotFrom x.frame) items
+IsOwnedBy None items x = IsNobodys items x
 IsOwnedBy (Some o) items x = IsSomeAnd (item_with o.number items) (IsFrom o x)
 
 abbrev pub IsOwned : List Item → List Owner → Sent → Type 0
@@ -75,4 +81,5 @@ pub record Sane (v : View) : Type 0 where
   pub sent : AllByRecursion (IsSent v.next) v.flights
   pub rising : AreRising v.flights
   pub early : AllByRecursion (IsEarly v.flights) v.early
+  pub no_place : v.placed ≡ []
   pub no_lease : v.leased ≡ []
