@@ -45,7 +45,7 @@ aside_is v mid request x none there aside nobodys =
         ∙ ap (λ (early : List (Mid × Rep)). record v { flights = sent_but x.mid v.flights; early = early_but x.mid early }) none
         ∙ sym (ap (λ (early : List (Mid × Rep)). record v { flights = sent_but x.mid v.flights; early = early }) none)
 
-aside_fits : (x : Sent) → wire_request x.message ≡ Some WireRequest.Aside → fits x done ≡ true
+pub aside_fits : (x : Sent) → wire_request x.message ≡ Some WireRequest.Aside → fits x done ≡ true
 aside_fits x aside = ap (λ (b : Bool). if b && true then false else true) (ap creates_as aside)
 
 -- Looking keeps a relation between the client before a step and the client after it: a reply in its turn is one after the step too, has
@@ -95,7 +95,7 @@ along R kept (owed.Reply mid request reply ∷ os) u v sane none none' related d
         let is = reply_is u mid request reply x none there holds.first in
         let is' = reply_is v mid request reply x none' there' turn'.first in
         after_one R (owed.Reply mid request reply) os u v x (masked request reply) is is'
-        (subst (λ (o : Option Sent). IsSomeAnd o (IsDueTo v request reply)) (sym there') (record { message = holds.message; first = turn'.first; fit = holds.fit }))
+        (subst (λ (o : Option Sent). IsSomeAnd o (IsDueTo v request reply)) (sym there') (record { message = holds.message; share = holds.share; first = turn'.first; fit = holds.fit }))
         (on (went x (masked request reply) u) (went x (masked request reply) v) (went_sane u x (masked request reply) sane turn.there turn.first turn.fit)
         (ap (early_but x.mid) none) (ap (early_but x.mid) none') (kept.on u v x (masked request reply) sane related turn) (subst (λ (w : View). AreDue w os) is later))
 along R kept (owed.Aside mid request ∷ os) u v sane none none' related due =

@@ -31,10 +31,10 @@ mark_stays s c (mark.Now time) sane may = told_sane c.view (view_after s c.view 
 mark_stays s c mark.End sane may = told_sane c.view (view_after s c.view (event.Marked mark.End)).told (record { owners = refl; begun = refl }) sane
 
 sent_stays : (s : Setting) (c : Client) (frame : List ℕ) (announced : List Announcement) → Sane c.view → MaySendUnder announced s c frame → Sane (sent_as announced frame c.view)
-sent_stays s c frame [] sane (Mounting m) = unmarked_sane c.view frame sane m.frame_is.frame_is.next m.frame_is.frame_is.some m.frame_is.asides
-sent_stays s c frame [] sane (Echo m) = unmarked_sane c.view frame sane m.frame_is.frame_is.next m.frame_is.frame_is.some m.frame_is.asides
-sent_stays s c frame [] sane (LeavingTree m) = unmarked_sane c.view frame sane m.frame_is.frame_is.next m.frame_is.frame_is.some m.frame_is.asides
-sent_stays s c frame [] sane (LeavingSession m) = unmarked_sane c.view frame sane m.frame_is.frame_is.next m.frame_is.frame_is.some m.frame_is.asides
+sent_stays s c frame [] sane (Mounting m) = unmarked_sane c.view frame sane m.frame_is.next m.frame_is.some m.aside
+sent_stays s c frame [] sane (Echo m) = unmarked_sane c.view frame sane m.frame_is.next m.frame_is.some m.aside
+sent_stays s c frame [] sane (LeavingTree m) = unmarked_sane c.view frame sane m.frame_is.next m.frame_is.some m.aside
+sent_stays s c frame [] sane (LeavingSession m) = unmarked_sane c.view frame sane m.frame_is.next m.frame_is.some m.aside
 sent_stays s c frame (a ∷ []) sane may = by (item_with a.number c.view.items) refl may
   where
     by : (o : Option Item) → item_with a.number c.view.items ≡ o → IsSomeAnd o (MaySendFor s c a frame) → Sane (sent_as (a ∷ []) frame c.view)

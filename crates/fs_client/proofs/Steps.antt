@@ -67,6 +67,25 @@ NoMore u = Unit {0}
 pub told_kept : (t : Told) → IsKept (Changes (λ items. items) NoMore t)
 told_kept t = changed_kept (λ items. items) NoMore t (λ u x reply sane c turn. record {}) (λ u x reply sane c turn a is. refl)
 
+-- bytes are got that are not looked at yet, and what they tell of the server
+abbrev pub gets : List ℕ → Told → View → View
+gets bytes t u = record u { held = bytes; told = t }
+
+pub record Gets (bytes : List ℕ) (t : Told) (u v : View) : Type 0 where
+  pub is : v ≡ gets bytes t u
+  pub owners : t.owners ≡ u.told.owners
+
+pub got_kept : (bytes : List ℕ) (t : Told) → IsKept (Gets bytes t)
+got_kept bytes t = record {
+  on = λ u v x reply sane r turn. record {
+    is = ap (went x reply) r.is
+        ∙ ap (λ (os : List Owner). record (gets bytes t u) { items = advanced (owner_of x.mid os) (is_refused x) reply u.items; flights = left_by x reply u.flights; early = early_but x.mid u.early }) r.owners;
+    owners = r.owners;
+  };
+  turn = λ u v x reply sane r turn. subst (λ (w : View). InTurn w.flights x reply) (sym r.is) turn;
+  owner = λ u v x reply sane r turn. ap (λ (w : View). owner_of x.mid w.told.owners) r.is ∙ ap (owner_of x.mid) r.owners;
+}
+
 -- a call begins
 on_append : (n : ℕ) (f : Item → Item) (items : List Item) (j : Item) (P : Item → Type 0) → IsSomeAnd (item_with n items) P → on_item n f (items ++ j ∷ []) ≡ on_item n f items ++ j ∷ []
 on_append n f [] j P holds = absurd holds

@@ -112,6 +112,7 @@ a_stat = record {
   lane = 0;
   call = call.Stat (codes "/");
   announced = true;
+  broken = false;
   rest = program_of options [] (call.Stat (codes "/"));
   fids = [];
   file = None;
@@ -125,11 +126,13 @@ unfolding wire_request reply_in is_aside_reply head_of head_at number_at first_o
 a_chain_of_three exchanges mounted = (
   record { facts = facts; mounted = mounted; connected = refl; there = refl; above = refl; lane_free = refl; going = refl; prompt = tt },
   (
-    record { idle = record {}; asking = record {}; alone = refl; next = refl; some = some_less; chained = λ stat first plain free. refl },
+    record { whole = refl; idle = record {}; asking = record {}; alone = refl; next = refl; some = some_less; chained = λ stat first plain free. refl },
     (
       record {
         facts = facts;
         mounted = mounted;
+        whole = refl;
+        announced = refl;
         idle = record {};
         wishes = stat_wishes [];
         frame_is = record { connected = refl; spelled = refl; granted = three_granted; some = some_less; next = (refl, refl, (refl, refl, (refl, refl, record {}))) };
@@ -142,7 +145,7 @@ a_chain_of_three exchanges mounted = (
         (
           refl,
           (
-            record { idle = record {}; says = inl refl },
+            record { idle = record {}; says = inl (refl, refl) },
             record {},
           ),
         ),
@@ -195,11 +198,13 @@ two_lanes exchanges mounted = (
   (
     record { facts = facts; mounted = mounted; connected = refl; there = refl; above = refl; lane_free = refl; going = refl; prompt = tt },
     (
-      record { idle = record {}; asking = record {}; alone = refl; next = refl; some = some_less; chained = λ stat first plain free. refl },
+      record { whole = refl; idle = record {}; asking = record {}; alone = refl; next = refl; some = some_less; chained = λ stat first plain free. refl },
       (
         record {
           facts = facts;
           mounted = mounted;
+          whole = refl;
+          announced = refl;
           idle = record {};
           wishes = stat_wishes [];
           frame_is = record { connected = refl; spelled = refl; granted = three_granted; some = some_less; next = (refl, refl, (refl, refl, (refl, refl, record {}))) };
@@ -208,11 +213,13 @@ two_lanes exchanges mounted = (
           asks = of_stat a_stat nothing_known;
         },
         (
-          record { idle = record {}; asking = record {}; alone = refl; next = refl; some = some_less; chained = λ stat first plain free. refl },
+          record { whole = refl; idle = record {}; asking = record {}; alone = refl; next = refl; some = some_less; chained = λ stat first plain free. refl },
           (
             record {
               facts = facts;
               mounted = mounted;
+              whole = refl;
+              announced = refl;
               idle = record {};
               wishes = stat_wishes (codes "b");
               frame_is = record { connected = refl; spelled = refl; granted = six_granted; some = some_less; next = (refl, refl, (refl, refl, (refl, refl, record {}))) };
@@ -223,13 +230,13 @@ two_lanes exchanges mounted = (
             (
               refl,
               (
-                record { idle = (refl, (refl, (refl, tt))); says = inl refl },
+                record { idle = (refl, (refl, (refl, tt))); says = inl (refl, refl) },
                 (
                   refl,
                   (
                     refl,
                     (
-                      record { idle = record {}; says = inl refl },
+                      record { idle = record {}; says = inl (refl, refl) },
                       record {},
                     ),
                   ),

@@ -26,7 +26,7 @@ use Rattle.fs_client.proofs.Frames.{IsOf, not_in, owner_behind, owner_outside, o
 use Rattle.fs_client.proofs.Answers.{IsFree, idle_free}
 use Rattle.fs_client.proofs.Sends.{sent_as, owners_left, IsNew, is_new, IsWhole, owners_are}
 use Rattle.fs_client.proofs.Keeping.{Along, along}
-use Rattle.fs_client.proofs.Steps.{changed, Changes, NoMore, HasNothing, told_kept, begin_kept, announce_kept, answer_kept, sends, IsFar, Sends, send_kept}
+use Rattle.fs_client.proofs.Steps.{gets, Gets, got_kept, changed, Changes, NoMore, HasNothing, told_kept, begin_kept, announce_kept, answer_kept, sends, IsFar, Sends, send_kept}
 
 -- a step does the same before and after the looks, and what is owed is still due
 pub record Commutes (T : View → View) (os : List Owed) (v w : View) : Type 0 where
@@ -78,6 +78,12 @@ end_commutes s os v sane none due =
     let w : View = view_after s v (event.Marked mark.End) in
     by_change (λ items. items) NoMore t os v w
     (along (Changes (λ items. items) NoMore t) (told_kept t) os v w sane none none (record { is = refl; owners = refl; so = record {} }) due)
+
+-- bytes are got, before they are looked at
+pub got_commutes : (os : List Owed) (v : View) (bytes : List ℕ) (t : Told) → t.owners ≡ v.told.owners → Sane v → v.early ≡ [] → AreDue v os → Commutes (gets bytes t) os v (gets bytes t v)
+got_commutes os v bytes t owners sane none due =
+    let a = along (Gets bytes t) (got_kept bytes t) os v (gets bytes t v) sane none none (record { is = refl; owners = owners }) due in
+    record { is = a.related.is; due = a.due; sane = a.sane; none = a.none }
 
 -- a frame is sent, of no call or of one that has nothing in flight
 apart : (a b next : ℕ) → a < next → next ≤ b → (b == a) ≡ false

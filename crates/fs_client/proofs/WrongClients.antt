@@ -105,3 +105,8 @@ without_a_mark exchanges frame (LeavingSession m) = some_none m.leaving.no_call
 -- to leave the share before the end was said
 an_early_leave : (exchanges : List Exchange) (frame : List ℕ) → IsLeavingTree s (mounted_by exchanges) frame → ⊥
 an_early_leave exchanges frame m = false≢true m.leaving.over
+
+-- once its connection was lost a call neither asks nor answers by its program
+after_a_loss : (exchanges : List Exchange) (first : Mid) (count : ℕ) → May s (done exchanges (begins ∷ event.Cut ∷ event.Joined ∷ [])) (event.Marked (mark.For 1 first count)) → ⊥
+unfolding chars components wire_request reply_in is_aside_reply head_of head_at number_at first_of frames_in rest_in step_of parts_of read_of contexts_of set_of path.components path.after_part name.fault_of name.spelling
+after_a_loss exchanges first count may = false≢true (sym may.whole)

@@ -31,6 +31,7 @@ new_item s number lane call v = record {
   lane = lane;
   call = call;
   announced = false;
+  broken = false;
   rest = program_of s.options s.seed call;
   fids = [];
   file = file_named call v.told.known.locals;

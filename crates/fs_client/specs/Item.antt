@@ -11,14 +11,16 @@ use Rattle.share_spec.specs.Reply.{fid_of}
 use Rattle.share_spec.specs.PlainShare.{shown}
 use Rattle.smb_link.specs.Program.{File, Own, Named, Program, Known, replied}
 
--- a call: its line, its lane, what it is, whether a frame was announced for it, what is left of its program by the replies that were
--- looked at (no look at what is known is taken before its next mark), the file ids of the opens that it made, the open file that its
--- descriptor named when it began, the frame that it sent last on this connection, and what was known at the mark of that frame
+-- a call: its line, its lane, what it is, whether a frame was announced for it, whether a connection was lost while it ran, what is left
+-- of its program by the replies that were looked at (no look at what is known is taken before its next mark), the file ids of the opens
+-- that it made, the open file that its descriptor named when it began, the frame that it sent last on this connection, and what was
+-- known at the mark of that frame
 pub record Item : Type 0 where
   pub number : ℕ
   pub lane : ℕ
   pub call : Call
   pub announced : Bool
+  pub broken : Bool
   pub rest : Program
   pub fids : List Fid
   pub file : Option ℕ
@@ -71,9 +73,9 @@ spoken_for number i = if i.number == number then record i { announced = true } e
 abbrev pub flown : Mid → Known → Item → Item
 flown frame known i = record i { frame = Some frame; known = known }
 
--- with a connection the frames go that were sent on it
+-- with a connection the frames go that were sent on it, and the calls that run are broken off
 abbrev pub parted : Item → Item
-parted i = record i { frame = None }
+parted i = record i { broken = true; frame = None }
 
 -- the file ids of a call's opens, with the one that a reply gave
 abbrev pub fids_with : RepBody → List Fid → List Fid

@@ -6,6 +6,7 @@ use Rattle.smb_head.specs.declared.command.TheConstants.{TREE_DISCONNECT, LOGOFF
 use Rattle.smb_head.specs.declared.request.Request.{Request}
 use Rattle.smb_mount.specs.declared.facts.Facts.{Facts}
 use Rattle.smb_mount.specs.Requests.{tree_disconnect, logoff}
+use Rattle.share_spec.specs.declared.connection.Sent.{Sent}
 use Rattle.fs_types.specs.declared.answer.Answer.{Answer}
 use Rattle.fs_types.specs.declared.call.Call.{Call}
 use Rattle.fs_types.specs.declared.call.Call.TheVariants as call
@@ -16,6 +17,7 @@ use Rattle.smb_link.specs.declared.mark.Mark.TheVariants as mark
 use Rattle.smb_link.specs.Calls.{is_there}
 use Rattle.smb_link.specs.Program.{Wish, Program, Ask, Look, Say, settled, of_errno}
 use Rattle.fs_plain.specs.Differences.{mids_in}
+use Rattle.fs_plain.specs.Requests.{WireRequest, wire_request}
 use Rattle.fs_plain.specs.Replies.{command_of}
 use Rattle.fs_plain.specs.Told.{Announcement}
 use Rattle.fs_plain.specs.World.{requests_in}
@@ -23,7 +25,7 @@ use Rattle.fs_client.specs.Item.{Item, Asking, NotAsked, Asked, Acknowledging, L
 use Rattle.fs_client.specs.View.{Setting, Exchange, Client}
 use Rattle.fs_client.specs.After.{frame_of, after}
 use Rattle.fs_client.specs.Flies.{FliesAs, files_of, IsIdle}
-use Rattle.fs_client.specs.Spelled.{request_for, ids_for, echo, next_mid, free_ids, IsFrameOf, IsAsideFrame}
+use Rattle.fs_client.specs.Spelled.{request_for, ids_for, echo, next_mid, free_ids, IsFrameOf}
 use Rattle.fs_client.specs.Mount.{Stage, Mounted, HasCome, asked_at}
 
 -- a break of a lease that was told is acknowledged
@@ -63,9 +65,11 @@ abbrev pub is_stat : Call → Bool
 is_stat (call.Stat path) = true
 is_stat other = false
 
--- A frame is announced for a call that runs, has nothing in flight and asks for something; no other frame is announced. Where three ids
--- are free, the first frame of a stat is announced with all its three requests.
+-- A frame is announced for a call that runs, was not broken off with a connection, has nothing in flight and asks for something; no other
+-- frame is announced. Where three ids are free, the first frame of a stat is announced with all its three requests. How a call goes on
+-- that was broken off is to come.
 pub record MayAnnounceFor (s : Setting) (c : Client) (first : Mid) (count : ℕ) (item : Item) : Type 0 where
+  pub whole : item.broken ≡ false
   pub idle : IsIdle item.frame c.view.flights
   pub asking : IsAsking (settled c.view.told.known item.rest)
   pub alone : c.view.told.announced ≡ []
@@ -76,11 +80,11 @@ pub record MayAnnounceFor (s : Setting) (c : Client) (first : Mid) (count : ℕ)
 abbrev pub MayAnnounce : Setting → Client → ℕ → Mid → ℕ → Type 0
 MayAnnounce s c number first count = IsSomeAnd (item_with number c.view.items) (MayAnnounceFor s c first count)
 
--- A call that has nothing in flight gives the answer that its program says by what is known now; or, for want of memory, one for which
--- no frame was announced gives ENOMEM.
+-- A call that was not broken off and has nothing in flight gives the answer that its program says by what is known now; or, for want of
+-- memory, one for which no frame was announced gives ENOMEM.
 pub record MayAnswerFor (c : Client) (answer : Answer) (item : Item) : Type 0 where
   pub idle : IsIdle item.frame c.view.flights
-  pub says : (settled c.view.told.known item.rest ≡ Say answer) ⊎ ((item.announced ≡ false) × (answer ≡ of_errno 12))
+  pub says : ((item.broken ≡ false) × (settled c.view.told.known item.rest ≡ Say answer)) ⊎ ((item.announced ≡ false) × (answer ≡ of_errno 12))
 
 abbrev pub MayAnswer : Client → ℕ → Answer → Type 0
 MayAnswer c number answer = IsSomeAnd (item_with number c.view.items) (MayAnswerFor c answer)
@@ -97,11 +101,13 @@ abbrev pub requests_for : Facts → Item → Client → List (Bool × Wish) → 
 requests_for facts item c wishes = map (request_for facts (files_of item c.view.placed item.fids)) wishes
 
 -- A frame is sent under a mark: it is the one spelling of as many requests as were announced, under the ids that were announced, of a
--- call that has nothing in flight; and they are what the call's program asks by what was known at the mark, one after another, whatever
--- the replies to those before are.
+-- call that was not broken off and has nothing in flight; and they are what the call's program asks by what was known at the mark, one
+-- after another, whatever the replies to those before are.
 pub record MaySendFor (s : Setting) (c : Client) (a : Announcement) (frame : List ℕ) (item : Item) : Type 0 where
   pub facts : Facts
   pub mounted : HasCome s c (Mounted facts)
+  pub whole : item.broken ≡ false
+  pub announced : item.announced ≡ true
   pub idle : IsIdle item.frame c.view.flights
   pub wishes : List (Bool × Wish)
   pub frame_is : IsFrameOf (requests_for facts item c wishes) c frame
@@ -112,6 +118,10 @@ pub record MaySendFor (s : Setting) (c : Client) (a : Announcement) (frame : Lis
 abbrev pub MaySend : Setting → Client → Announcement → List ℕ → Type 0
 MaySend s c a frame = IsSomeAnd (item_with a.number c.view.items) (MaySendFor s c a frame)
 
+-- a request asks for something of the connection itself
+abbrev pub IsAside : Sent → Type 0
+IsAside x = wire_request x.message ≡ Some WireRequest.Aside
+
 -- A request without a mark asks what the mount of the connection asks next, while no call runs and nothing is in flight.
 pub record IsMounting (s : Setting) (c : Client) (frame : List ℕ) : Type 0 where
   pub stage : Stage
@@ -120,7 +130,8 @@ pub record IsMounting (s : Setting) (c : Client) (frame : List ℕ) : Type 0 whe
   pub asks : asked_at stage ≡ Some request
   pub no_call : c.view.items ≡ []
   pub quiet : c.view.flights ≡ []
-  pub frame_is : IsAsideFrame request c frame
+  pub frame_is : IsFrameOf (request ∷ []) c frame
+  pub aside : AllByRecursion IsAside (requests_in frame)
 
 -- An ECHO asks for more ids, where nothing is in flight and the next request of a call costs more than are free.
 pub record IsEcho (s : Setting) (c : Client) (frame : List ℕ) : Type 0 where
@@ -133,7 +144,8 @@ pub record IsEcho (s : Setting) (c : Client) (frame : List ℕ) : Type 0 where
   pub wish : Wish
   pub waits : StartsWith wish (settled c.view.told.known item.rest)
   pub short : free_ids c < ids_for facts wish
-  pub frame_is : IsAsideFrame (echo facts) c frame
+  pub frame_is : IsFrameOf (echo facts ∷ []) c frame
+  pub aside : AllByRecursion IsAside (requests_in frame)
 
 -- a request of this command was answered on this connection
 abbrev pub was_answered : ℕ → List Exchange → Bool
@@ -152,7 +164,8 @@ pub record IsLeavingTree (s : Setting) (c : Client) (frame : List ℕ) : Type 0 
   pub facts : Facts
   pub leaving : IsLeaving s c facts
   pub once : was_answered TREE_DISCONNECT c.tally.exchanges ≡ false
-  pub frame_is : IsAsideFrame (tree_disconnect facts) c frame
+  pub frame_is : IsFrameOf (tree_disconnect facts ∷ []) c frame
+  pub aside : AllByRecursion IsAside (requests_in frame)
 
 -- Leaving asks to end the session, once, behind that.
 pub record IsLeavingSession (s : Setting) (c : Client) (frame : List ℕ) : Type 0 where
@@ -160,7 +173,8 @@ pub record IsLeavingSession (s : Setting) (c : Client) (frame : List ℕ) : Type
   pub leaving : IsLeaving s c facts
   pub behind : was_answered TREE_DISCONNECT c.tally.exchanges ≡ true
   pub once : was_answered LOGOFF c.tally.exchanges ≡ false
-  pub frame_is : IsAsideFrame (logoff facts) c frame
+  pub frame_is : IsFrameOf (logoff facts ∷ []) c frame
+  pub aside : AllByRecursion IsAside (requests_in frame)
 
 -- The requests without a mark are of these kinds. Acknowledging, flushing, closing and reclaiming are to come.
 pub data Unmarked (s : Setting) (c : Client) (frame : List ℕ) : Type 0 where

@@ -1,5 +1,5 @@
 -- The client once it has looked at all that a share owes: what is coming is no list of its own, but the view after the looks to come.
-use Rattle.std.specs.Prelude.{◌≡◌, ℕ, true, IsSomeAnd, List, [], ◌∷◌, None, Some}
+use Rattle.std.specs.Prelude.{◌≡◌, ℕ, true, IsSomeAnd, List, Option, [], ◌∷◌, None, Some}
 use Rattle.share_spec.specs.declared.connection.Owed.{Owed}
 use Rattle.share_spec.specs.declared.connection.Owed.TheVariants as owed
 use Rattle.share_spec.specs.declared.connection.Sent.{Sent}
@@ -17,9 +17,16 @@ abbrev pub taken : List Owed → View → View
 taken [] v = v
 taken (o ∷ os) v = taken os (landed_owed o v)
 
+-- a request makes one of the share
+abbrev pub IsShare : Option WireRequest → Type 0
+IsShare None = ⊥
+IsShare (Some WireRequest.Aside) = ⊥
+IsShare (Some (WireRequest.Share related request)) = Unit {0}
+
 -- a reply that is owed is one to the first request in flight of its frame
 pub record IsDueTo (v : View) (request : List ℕ) (reply : Rep) (x : Sent) : Type 0 where
   pub message : x.message ≡ request
+  pub share : IsShare (wire_request x.message)
   pub first : is_first_of_frame v.flights x ≡ true
   pub fit : fits x (masked request reply) ≡ true
 

@@ -1,8 +1,6 @@
 -- The frames that the client sends, byte by byte: each request is the one spelling of what it asks, under the next ids, in the mount's
 -- session and tree, with the charge of its payload.
-use Rattle.std.specs.Prelude.{◌≡◌, ℕ, ◌+◌, ◌-◌, ◌^◌, ◌<◌, ◌≤◌, Bool, true, false, if◌then◌else◌, List, [], ◌∷◌, length, Some, is_none, Result, Ok, Err}
-use Rattle.std.specs.List.{AllByRecursion}
-use Rattle.share_spec.specs.declared.connection.Sent.{Sent}
+use Rattle.std.specs.Prelude.{◌≡◌, ℕ, ◌+◌, ◌-◌, ◌^◌, ◌<◌, ◌≤◌, Bool, true, false, if◌then◌else◌, List, [], ◌∷◌, length, is_none, Result, Ok, Err}
 use Rattle.smb_base.specs.declared.names.Fid.{Fid}
 use Rattle.smb_base.specs.declared.names.Mid.{Mid}
 use Rattle.smb_head.specs.declared.command.TheConstants.{CREATE, CLOSE, ECHO, QUERY_INFO}
@@ -19,8 +17,8 @@ use Rattle.smb_mount.specs.declared.facts.Facts.{Facts}
 use Rattle.smb_mount.specs.Requests.{charge_of, unit_bytes, empty_body}
 use Rattle.smb_mux.specs.Sending.{costs, placed}
 use Rattle.smb_link.specs.Program.{File, Wish, Open as Opening, Query, Close}
-use Rattle.fs_plain.specs.Requests.{WireRequest, wire_request}
-use Rattle.fs_plain.specs.World.{mid_of, requests_in}
+use Rattle.fs_plain.specs.Requests.{wire_request}
+use Rattle.fs_plain.specs.World.{mid_of}
 use Rattle.fs_plain.specs.Taken.{wished_attributes}
 use Rattle.fs_client.specs.View.{Client}
 use Rattle.fs_client.specs.After.{parts_sent, cost_of}
@@ -112,8 +110,3 @@ pub record IsFrameOf (requests : List Request) (c : Client) (frame : List ℕ) :
   pub granted : c.view.next + costs requests ≤ c.tally.granted
   pub some : 0 < length (parts_sent frame)
   pub next : AreNext c.view.next (parts_sent frame)
-
--- a frame is a request of the connection itself
-pub record IsAsideFrame (request : Request) (c : Client) (frame : List ℕ) : Type 0 where
-  pub frame_is : IsFrameOf (request ∷ []) c frame
-  pub asides : AllByRecursion (λ (x : Sent). wire_request x.message ≡ Some WireRequest.Aside) (requests_in frame)
