@@ -10,9 +10,9 @@ pub mod Answers
 pub mod Connections
 pub mod Sends
 pub mod Stays
-mod Spellings
-mod Stories
-mod Comings
+pub mod Spellings
+pub mod Stories
+pub mod Comings
 mod WrongClients
 pub mod Keeping
 pub mod Steps
