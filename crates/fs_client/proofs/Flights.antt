@@ -10,10 +10,10 @@ use Rattle.share_spec.specs.declared.connection.LastCreate.{LastCreate}
 use Rattle.share_spec.specs.declared.connection.Sent.{Sent}
 use Rattle.share_spec.specs.declared.request.Rep.{Rep}
 use Rattle.share_spec.specs.PlainShare.{shown}
-use Rattle.share_spec.specs.Sent.{behind_create, sent_but}
+use Rattle.share_spec.specs.Sent.{behind_create, sent_but, sent_with}
 use Rattle.smb_link.specs.Program.{File, Program, Known, Ask, Look, Say, settled}
 use Rattle.fs_plain.specs.Requests.{WireRequest, wire_request}
-use Rattle.fs_plain.specs.World.{is_creating, refusal_before, came_to, sent_with, is_first_of_frame}
+use Rattle.fs_plain.specs.World.{is_creating, refusal_before, came_to, is_first_of_frame}
 use Rattle.fs_client.specs.Item.{fids_after}
 use Rattle.fs_client.specs.Asked.{creates, creates_as, is_refused, refused_as, behind_it, left_by}
 use Rattle.fs_client.specs.Flies.{AsksNext, FliesAs}

@@ -8,11 +8,11 @@ use Rattle.share_spec.specs.declared.connection.Sent.{Sent}
 use Rattle.share_spec.specs.declared.request.Rep.{Rep}
 use Rattle.share_spec.specs.declared.request.RepBody.TheVariants as body
 use Rattle.share_spec.specs.Reply.{of_status}
-use Rattle.share_spec.specs.Sent.{behind_create, sent_but}
+use Rattle.share_spec.specs.Sent.{behind_create, sent_but, sent_with}
 use Rattle.fs_plain.specs.Masked.{masked}
 use Rattle.fs_plain.specs.Requests.{WireRequest, wire_request}
 use Rattle.fs_plain.specs.Replay.{Owner, owner_of}
-use Rattle.fs_plain.specs.World.{came_to, sent_with, is_first_of_frame}
+use Rattle.fs_plain.specs.World.{came_to, is_first_of_frame}
 use Rattle.fs_client.specs.View.{View}
 use Rattle.fs_client.specs.Asked.{creates_as, is_refused, fits, left_by}
 use Rattle.fs_client.specs.Looks.{early_but, awaited_with, advanced, went, drained, landed_by, without, answered_aside, landed_owed}

@@ -11,11 +11,11 @@ use Rattle.share_spec.specs.declared.request.Rep.{Rep}
 use Rattle.share_spec.specs.declared.request.RepBody.TheVariants as body
 use Rattle.share_spec.specs.PlainShare.{shown}
 use Rattle.share_spec.specs.Reply.{of_status}
-use Rattle.share_spec.specs.Sent.{behind_create, sent_but}
+use Rattle.share_spec.specs.Sent.{behind_create, sent_but, sent_with}
 use Rattle.smb_link.specs.Program.{Program, Known, Ask, Look, Say, settled, replied}
 use Rattle.fs_plain.specs.Requests.{WireRequest, wire_request}
 use Rattle.fs_plain.specs.Replies.{reply_in, is_aside_reply}
-use Rattle.fs_plain.specs.World.{mid_of, sent_with, is_first_of_frame, came_to}
+use Rattle.fs_plain.specs.World.{mid_of, is_first_of_frame, came_to}
 use Rattle.fs_plain.specs.Replay.{Owner, owner_of}
 use Rattle.fs_client.specs.Item.{Item, Placed, item_with, on_item, gone_on, fids_after}
 use Rattle.fs_client.specs.View.{View}

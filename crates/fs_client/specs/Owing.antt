@@ -7,7 +7,8 @@ use Rattle.share_spec.specs.declared.request.Rep.{Rep}
 use Rattle.fs_plain.specs.Masked.{masked}
 use Rattle.fs_plain.specs.Requests.{WireRequest, wire_request}
 use Rattle.fs_plain.specs.Replay.{owner_of}
-use Rattle.fs_plain.specs.World.{sent_with, is_first_of_frame}
+use Rattle.share_spec.specs.Sent.{sent_with}
+use Rattle.fs_plain.specs.World.{is_first_of_frame}
 use Rattle.fs_client.specs.View.{View}
 use Rattle.fs_client.specs.Asked.{fits}
 use Rattle.fs_client.specs.Looks.{landed_owed}

@@ -7,7 +7,7 @@ use Rattle.share_spec.specs.declared.request.Rep.{Rep}
 use Rattle.fs_plain.specs.Requests.{WireRequest, wire_request}
 use Rattle.fs_plain.specs.Replay.{Owner, owner_of}
 use Rattle.fs_plain.specs.Told.{Told, was_begun}
-use Rattle.fs_plain.specs.World.{sent_with}
+use Rattle.share_spec.specs.Sent.{sent_with}
 use Rattle.fs_client.specs.Item.{Item, item_with}
 use Rattle.fs_client.specs.View.{View}
 use Rattle.fs_client.specs.Asked.{fits}
