@@ -1,5 +1,5 @@
 -- The requests of a mount and of its end ask for something of the connection itself.
-use Rattle.std.proofs.Common.{rules, ◌≡◌, ◌∙◌, refl, ap, subst, ℕ, Bool, true, false, if◌then◌else◌, List, [], ◌∷◌, ◌++◌, length, Some, None, arith}
+use Rattle.std.proofs.Common.{rules, ◌≡◌, ◌∙◌, refl, ap, subst, ℕ, ◌*◌, Bool, true, false, if◌then◌else◌, List, [], ◌∷◌, ◌++◌, length, Some, None, arith}
 use Rattle.std.proofs.lemmas.List.{append-nil}
 use Rattle.smb_head.specs.declared.command.TheConstants.{NEGOTIATE, SESSION_SETUP, LOGOFF, TREE_CONNECT, TREE_DISCONNECT}
 use Rattle.smb_head.specs.Header.{header}
@@ -7,6 +7,13 @@ use Rattle.smb_head.proofs.HeadLaws.{length-header}
 use Rattle.smb_field.specs.declared.field.Field.{Field}
 use Rattle.smb_field.specs.declared.field.Field.TheVariants.{U16, U64, Block, Any8, Any16, Any32, Any64, Offset16, Follows}
 use Rattle.smb_field.specs.Body.{IsBody, IsReadAgain, spelling}
+use Rattle.smb_le.specs.Numbers.{number_at}
+use Rattle.smb_field.specs.Rows.{part_in}
+use Rattle.smb_field.proofs.Parts.{part_read}
+use Rattle.smb_body_a.specs.Empty.{empty_of}
+use Rattle.smb_body_a.specs.Negotiate.{negotiate_request_of}
+use Rattle.smb_body_a.specs.Session.{session_setup_request_of}
+use Rattle.smb_body_a.specs.Tree.{tree_connect_request_of}
 use Rattle.fs_plain.specs.Requests.{WireRequest, wire_request, is_aside}
 use Rattle.fs_core.specs.declared.write.RequestPlace.{RequestPlace}
 use Rattle.fs_core.specs.Written.{request_head, message_of}
@@ -28,7 +35,11 @@ aside_if m false is = absurd (no is)
     no is = search rules
 
 negotiate_is : (guid m : List ℕ) → IsBody 36 (U16 1 ∷ Any16 1 ∷ Any16 0 ∷ Any32 0 ∷ Block guid ∷ Any64 0 ∷ Follows ∷ []) (0x10 ∷ 0x02 ∷ []) m → is_aside 0 m ≡ true
-negotiate_is guid m is = grind arith
+unfolding negotiate_request_of
+negotiate_is guid m is =
+    let there : part_in 100 100 (2 * number_at 2 66 m) m ≡ Some (0x10 ∷ 0x02 ∷ []) =
+    part_read 100 (0x10 ∷ 0x02 ∷ []) m 100 (2 * number_at 2 66 m) is.2.1.1.1.1.1.1.0 (ap (λ (n : ℕ). 2 * n) is.2.0) in
+    grind (arith, is.0, is.1, there)
 
 -- NEGOTIATE
 pub negotiate_aside : (guid body : List ℕ) → body ≡ spelling 36 (U16 1 ∷ Any16 1 ∷ Any16 0 ∷ Any32 0 ∷ Block guid ∷ Any64 0 ∷ Follows ∷ []) (0x10 ∷ 0x02 ∷ [])
@@ -41,7 +52,11 @@ negotiate_aside guid body is again place fits =
     ∙ aside_if m (is_aside 0 m) (negotiate_is guid m (stands place NEGOTIATE 36 fields (0x10 ∷ 0x02 ∷ []) again))
 
 session_is : (previous : ℕ) (token m : List ℕ) → IsBody 25 (Any8 0 ∷ Any8 1 ∷ Any32 0 ∷ Any32 0 ∷ Offset16 ∷ U16 (length token) ∷ U64 previous ∷ []) token m → is_aside 1 m ≡ true
-session_is previous token m is = grind arith
+unfolding session_setup_request_of
+session_is previous token m is =
+    let there : part_in 88 (number_at 2 76 m) (number_at 2 78 m) m ≡ Some token =
+    part_read 88 token m (number_at 2 76 m) (number_at 2 78 m) is.2.1.1.1.1.0 is.2.1.1.1.1.1.0 in
+    grind (arith, is.0, is.1, there)
 
 -- SESSION_SETUP
 pub session_aside : (previous : ℕ) (token body : List ℕ) → body ≡ spelling 25 (Any8 0 ∷ Any8 1 ∷ Any32 0 ∷ Any32 0 ∷ Offset16 ∷ U16 (length token) ∷ U64 previous ∷ []) token
@@ -54,7 +69,11 @@ session_aside previous token body is again place fits =
     ∙ aside_if m (is_aside 1 m) (session_is previous token m (stands place SESSION_SETUP 25 fields token again))
 
 tree_is : (path m : List ℕ) → IsBody 9 (Any16 0 ∷ Offset16 ∷ U16 (length path) ∷ []) path m → is_aside 3 m ≡ true
-tree_is path m is = grind arith
+unfolding tree_connect_request_of
+tree_is path m is =
+    let there : part_in 72 (number_at 2 68 m) (number_at 2 70 m) m ≡ Some path =
+    part_read 72 path m (number_at 2 68 m) (number_at 2 70 m) is.2.1.0 is.2.1.1.0 in
+    grind (arith, is.0, is.1, there)
 
 -- TREE_CONNECT
 pub tree_aside : (path body : List ℕ) → body ≡ spelling 9 (Any16 0 ∷ Offset16 ∷ U16 (length path) ∷ []) path
@@ -67,7 +86,8 @@ tree_aside path body is again place fits =
     ∙ aside_if m (is_aside 3 m) (tree_is path m (stands place TREE_CONNECT 9 fields path again))
 
 disconnect_is : (m : List ℕ) → IsBody 4 (Any16 0 ∷ []) [] m → is_aside 4 m ≡ true
-disconnect_is m is = grind arith
+unfolding empty_of
+disconnect_is m is = grind (arith, is.0, is.1)
 
 -- TREE_DISCONNECT
 pub disconnect_aside : (body : List ℕ) → body ≡ spelling 4 (Any16 0 ∷ []) [] → IsReadAgain 4 (Any16 0 ∷ []) [] → IsAsideBody TREE_DISCONNECT body
@@ -78,7 +98,8 @@ disconnect_aside body is again place fits =
     ∙ aside_if m (is_aside 4 m) (disconnect_is m (stands place TREE_DISCONNECT 4 (Any16 0 ∷ []) [] again))
 
 logoff_is : (m : List ℕ) → IsBody 4 (Any16 0 ∷ []) [] m → is_aside 2 m ≡ true
-logoff_is m is = grind arith
+unfolding empty_of
+logoff_is m is = grind (arith, is.0, is.1)
 
 -- LOGOFF
 pub logoff_aside : (body : List ℕ) → body ≡ spelling 4 (Any16 0 ∷ []) [] → IsReadAgain 4 (Any16 0 ∷ []) [] → IsAsideBody LOGOFF body

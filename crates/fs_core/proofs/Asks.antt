@@ -176,7 +176,7 @@ announces options seed number mid message begun i old new may gains =
     (leads_for options seed (resting (i ∷ []) begun mid.0) (record { number = number; first = mid; count = 1 }) old new gains may.known)
 
 wish_known : (rest : Program) (fids : List _) (message : List ℕ) → IsWish rest fids message → is_none (wire_request message) ≡ false
-wish_known (Ask wish rest) fids message is = ap (λ (o : Option WireRequest). is_none o) is
+wish_known (Ask wish rest) fids message is = ap (λ (o : Option WireRequest). is_none o) is.0
 wish_known (Look rest) fids message is = absurd is
 wish_known (Say answer) fids message is = absurd is
 

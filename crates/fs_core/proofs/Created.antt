@@ -14,24 +14,23 @@ use Rattle.smb_body_b.specs.declared.contexts.ContextSet.{ContextSet}
 use Rattle.share_spec.specs.declared.request.Rep.{Rep}
 use Rattle.share_spec.specs.declared.request.RepBody.{RepBody}
 use Rattle.share_spec.specs.declared.request.RepBody.TheVariants as body
-use Rattle.smb_le.specs.Numbers.{number_at}
+use Rattle.smb_field.specs.Rows.{if_read}
+use Rattle.smb_body_b.specs.Create.{CreateReplyValue, create_reply_of}
 use Rattle.smb_body_b.specs.Contexts.{read_of}
-use Rattle.fs_plain.specs.Wire.{has_body, lies, bytes_at}
+use Rattle.fs_plain.specs.Masked.{Nothing}
 use Rattle.fs_plain.specs.Replies.{is_error, opened_with, opened_in, reply_of}
 use Rattle.fs_core.specs.Judged.{SaysWith, Says}
 
-opened_body : (message : List ℕ) (read : Result ContextSet BodyFault) → IfSome (opened_with message read) IsOpenedBody
-opened_body message (Ok set) = tt
-opened_body message (Err fault) = tt
+opened_body : (x : CreateReplyValue) (read : Result ContextSet BodyFault) → IfSome (opened_with Nothing x read) IsOpenedBody
+opened_body x (Ok set) = tt
+opened_body x (Err fault) = tt
 
-opened_if : (t : Bool) (o : Option RepBody) → IfSome o IsOpenedBody → IfSome (if t then o else None) IsOpenedBody
-opened_if true o is = is
-opened_if false o is = tt
+opened_read : (r : Result CreateReplyValue BodyFault) → IfSome (if_read r (λ (x : CreateReplyValue). opened_with Nothing x (read_of true x.contexts)) None) IsOpenedBody
+opened_read (Ok x) = opened_body x (read_of true x.contexts)
+opened_read (Err fault) = tt
 
-all_opened : (message : List ℕ) → IfSome (opened_in message) IsOpenedBody
-all_opened message =
-    let contexts : Result ContextSet BodyFault = read_of true (bytes_at (number_at 4 144 message) (number_at 4 148 message) message) in
-    opened_if (has_body 89 message && lies 89 (number_at 4 144 message) (number_at 4 148 message) message) (opened_with message contexts) (opened_body message contexts)
+all_opened : (message : List ℕ) → IfSome (opened_in Nothing message) IsOpenedBody
+all_opened message = opened_read (create_reply_of message)
 
 by_body : (o : Option RepBody) (reply : Rep) → IfSome o IsOpenedBody → reply_of 0 o ≡ Some reply → IsOpenedBody reply.body
 by_body None reply is same = absurd (cc)
@@ -45,8 +44,8 @@ by_error status true reply same = search rules
 by_error status false reply same = absurd (cc)
 
 by_status : (status : ℕ) (t : Bool) (message : List ℕ) (reply : Rep) → (status ≡ 0 → t ≡ true)
-    → (if t then reply_of 0 (opened_in message) else (if is_error message then reply_of status (Some body.None) else None)) ≡ Some reply → IsCreated reply
-by_status status true message reply zero same none = by_body (opened_in message) reply (all_opened message) same
+    → (if t then reply_of 0 (opened_in Nothing message) else (if is_error message then reply_of status (Some body.None) else None)) ≡ Some reply → IsCreated reply
+by_status status true message reply zero same none = by_body (opened_in Nothing message) reply (all_opened message) same
 by_status status false message reply zero same none = absurd (no (zero (sym (by_error status (is_error message) reply same) ∙ none)))
   where
     no : false ≡ true → ⊥

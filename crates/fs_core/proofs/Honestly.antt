@@ -16,6 +16,7 @@ use Rattle.share_spec.specs.declared.connection.Owed.{Owed}
 use Rattle.share_spec.specs.declared.connection.Owed.TheVariants as owed
 use Rattle.share_spec.specs.declared.share.Share.{Share}
 use Rattle.share_spec.specs.State.{has}
+use Rattle.fs_plain.specs.Masked.{Nothing, untold, masked}
 use Rattle.fs_plain.specs.Replies.{command_of, answers, is_interim, is_error, reply_by_status, is_aside_by_status}
 use Rattle.fs_plain.specs.Replay.{Replay}
 use Rattle.fs_plain.specs.View.{Item, Flight, messages_among, IsFor, IsOf, Sound, Belongs, with_hand}
@@ -28,8 +29,8 @@ use Rattle.fs_core.specs.declared.reply_kind.Look.TheVariants as look
 use Rattle.fs_core.specs.Hearing.{all_ok}
 use Rattle.fs_core.specs.Exchange.{awaiting, Awaits}
 use Rattle.fs_core.specs.Judged.{has_reply_body, is_notice, look_at_final, look_at_reply, looked_by, looked, look_with, look_of, answered, judged_as, judged_by, judged_within, judged}
-use Rattle.fs_core.proofs.Paying.{is_number, no, three, reply_is, aside_is, interim_is, the_flight, none_behind, one_gone}
-use Rattle.fs_core.proofs.Bodies.{call_command, own_command, reply_body, aside_body}
+use Rattle.fs_core.proofs.Paying.{is_number, no, three, whole_says, reply_is, aside_is, interim_is, the_flight, none_behind, one_gone}
+use Rattle.fs_core.proofs.Bodies.{call_command, call_whole, own_command, reply_body, aside_body}
 
 equal : (a b : ℕ) → a ≡ b → (a == b) ≡ true
 equal a b is = search rules
@@ -104,12 +105,14 @@ step request items f owed' part messages others awaits belongs (owed.Interim m q
     by_header request f part it.0 look.Passed it.1 (heads request f m q it.0 awaits one.0 one.1 it.2) (looked_passed it.0 part it.3 it.4) in
     subst (λ (l : Look). IsFine (judged_as l part (Some request) others)) (sym looks) (waits paid settled.1 sound.1)
 step request items f owed' part messages others awaits belongs (owed.Reply m q reply ∷ paid) settled sound waits over =
-    let it = reply_is m q part reply settled.0 in
+    let it = reply_is m q part (masked q reply) settled.0 in
     let one = the_flight (IsFor true q) m f (λ none. none) sound.0.1 in
+    let whole : untold q ≡ Nothing = ap untold (sym one.1.0) ∙ call_whole f.owner items f one.1.1 belongs in
+    let says : reply_by_status Nothing it.0.status.0 (command_of q) part ≡ Some reply = whole_says q part it.0.status.0 (command_of q) reply whole it.2.says in
     let h : Heads request f it.0 = heads request f m q it.0 awaits one.0 one.1.0 it.2.answers_it in
     let known = call_command f.owner items f one.1.1 belongs in
     let fits : has_reply_body it.0.status.0 (command_of f.message) part ≡ true =
-    reply_body it.0.status.0 (command_of f.message) part reply known (subst (λ (x : List ℕ). reply_by_status it.0.status.0 (command_of x) part ≡ Some reply) (sym one.1.0) it.2.says) in
+    reply_body it.0.status.0 (command_of f.message) part reply known (subst (λ (x : List ℕ). reply_by_status Nothing it.0.status.0 (command_of x) part ≡ Some reply) (sym one.1.0) says) in
     let looks : look_of (Some request) part ≡ look.Final =
     by_header request f part it.0 look.Final it.1 h (looked_final it.0 part it.2.final (subst (λ (c : ℕ). has_reply_body it.0.status.0 c part ≡ true) (sym h.command) fits)) in
     subst (λ (l : Look). IsFine (judged_as l part (Some request) others)) (sym looks)
@@ -132,7 +135,7 @@ has_header : (f : Flight) (owed' : List Owed) (part : List ℕ) (messages : List
     → (h : Head) × (head_of part ≡ Ok h)
 has_header f owed' part messages [] settled sound = absurd settled
 has_header f owed' part messages (owed.Interim m q ∷ paid) settled sound = let it = interim_is m q part settled.0 in (it.0, it.1)
-has_header f owed' part messages (owed.Reply m q reply ∷ paid) settled sound = let it = reply_is m q part reply settled.0 in (it.0, it.1)
+has_header f owed' part messages (owed.Reply m q reply ∷ paid) settled sound = let it = reply_is m q part (masked q reply) settled.0 in (it.0, it.1)
 has_header f owed' part messages (owed.Aside m q ∷ paid) settled sound = let it = aside_is m q part settled.0 in (it.0, it.1)
 has_header f owed' part messages (owed.Notice key state wanted ∷ paid) settled sound = absurd sound
 

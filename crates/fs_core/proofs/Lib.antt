@@ -1,4 +1,3 @@
-pub mod Parts
 pub mod Sent
 pub mod Units
 pub mod Creates

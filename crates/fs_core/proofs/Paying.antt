@@ -1,5 +1,5 @@
 -- What a message says by its header that pays what is owed.
-use Rattle.std.proofs.Common.{rules, ◌≡◌, refl, ap, ℕ, ◌==◌, ◌&&◌, Bool, true, false, not, if◌then◌else◌, List, [], ◌∷◌, ◌++◌, Option, Some, None, Result, Ok, Err}
+use Rattle.std.proofs.Common.{rules, ◌≡◌, refl, ap, subst, ℕ, ◌==◌, ◌&&◌, Bool, true, false, not, if◌then◌else◌, List, [], ◌∷◌, ◌++◌, Option, Some, None, Result, Ok, Err}
 use Rattle.smb_base.specs.declared.names.Mid.{Mid}
 use Rattle.smb_head.specs.declared.head.Head.{Head}
 use Rattle.smb_head.specs.declared.head.HeadFault.{HeadFault}
@@ -7,6 +7,7 @@ use Rattle.smb_head.specs.Header.{head_of}
 use Rattle.share_spec.specs.declared.connection.Owed.{Owed}
 use Rattle.share_spec.specs.declared.connection.Owed.TheVariants as owed
 use Rattle.share_spec.specs.declared.request.Rep.{Rep}
+use Rattle.fs_plain.specs.Masked.{Untold, Nothing, untold, told_of, masked}
 use Rattle.fs_plain.specs.Replies.{command_of, answers, is_interim, is_error, reply_by_status, reply_with, reply_in, interim_with, is_interim_of, is_aside_by_status, aside_with, is_aside_reply}
 use Rattle.fs_plain.specs.View.{Flight, flight_with, flights_but, Sound}
 use Rattle.fs_plain.specs.Related.{Settles}
@@ -41,7 +42,7 @@ not_true false is = refl
 pub record RepliesTo (m : Mid) (q part : List ℕ) (reply : Rep) (head : Head) : Type 0 where
   pub answers_it : answers m q head ≡ true
   pub final : is_interim head ≡ false
-  pub says : reply_by_status head.status.0 (command_of q) part ≡ Some reply
+  pub says : reply_by_status (untold q) head.status.0 (command_of q) part ≡ Some reply
 
 reply_head : (m : Mid) (q part : List ℕ) (reply : Rep) (head : Result Head HeadFault) → reply_with head m q part ≡ Some reply
     → (h : Head) × (head ≡ Ok h) × RepliesTo m q part reply h
@@ -50,13 +51,19 @@ reply_head m q part reply (Err fault) is = absurd (never is)
     never : None ≡ Some reply → ⊥
     never is = search rules
 reply_head m q part reply (Ok head) is =
-    let s = some_of (answers m q head && not (is_interim head)) (reply_by_status head.status.0 (command_of q) part) reply is in
+    let s = some_of (answers m q head && not (is_interim head)) (reply_by_status (untold q) head.status.0 (command_of q) part) reply is in
     let t = two (answers m q head) (not (is_interim head)) s.0 in
     (head, refl, record { answers_it = t.0; final = not_true (is_interim head) t.1; says = s.1 })
 
 pub reply_is : (m : Mid) (q part : List ℕ) (reply : Rep) → reply_in m q part ≡ Some reply → (h : Head) × (head_of part ≡ Ok h) × RepliesTo m q part reply h
 unfolding reply_in
 reply_is m q part reply is = reply_head m q part reply (head_of part) is
+
+-- the reply to a request that is told everything is the share's own
+pub whole_says : (q part : List ℕ) (status command : ℕ) (reply : Rep) → untold q ≡ Nothing
+    → reply_by_status (untold q) status command part ≡ Some (masked q reply) → reply_by_status Nothing status command part ≡ Some reply
+whole_says q part status command reply whole says =
+    subst (λ (u : Untold). reply_by_status u status command part ≡ Some (told_of u reply)) whole says
 
 aside_head : (m : Mid) (q part : List ℕ) (head : Result Head HeadFault) → aside_with head m q part ≡ true
     → (h : Head) × (head ≡ Ok h) × (answers m q h ≡ true) × (is_interim h ≡ false) × (is_aside_by_status h.status.0 (command_of q) part ≡ true)

@@ -15,9 +15,10 @@ use Rattle.share_spec.specs.declared.share.Share.{Share}
 use Rattle.share_spec.specs.State.{has}
 use Rattle.fs_types.specs.declared.options.Options.{Options}
 use Rattle.smb_link.specs.declared.event.Event.{Event}
+use Rattle.fs_plain.specs.Masked.{Nothing, untold, masked}
 use Rattle.fs_plain.specs.Replies.{command_of, answers, is_interim, reply_by_status, reply_in, is_interim_of}
 use Rattle.fs_plain.specs.Replay.{Replay}
-use Rattle.fs_plain.specs.View.{Item, Flight, View, flights_but, is_of_call, IsFor, Sound, with_hand, without_flight, messages_among, with_reply, land}
+use Rattle.fs_plain.specs.View.{Item, Flight, View, flights_but, is_of_call, IsFor, Sound, Belongs, with_hand, without_flight, messages_among, with_reply, land}
 use Rattle.fs_plain.specs.Related.{Related, Settles}
 use Rattle.fs_plain.specs.Moves.{Leads, Leaves}
 use Rattle.fs_plain.proofs.Getting.{interim_related, aside_related, reply_related}
@@ -36,7 +37,8 @@ use Rattle.fs_core.specs.Judged.{judged, PassedWith, IsPassed, FinalWith, IsFina
 use Rattle.fs_core.specs.Hearing.{all_ok, Hears}
 use Rattle.fs_core.specs.Exchange.{resting, awaiting, Awaits, TakesFrame, ReplyLeads}
 use Rattle.fs_core.proofs.Brought.{brings}
-use Rattle.fs_core.proofs.Paying.{is_number, no, three, reply_is, aside_is, interim_is, the_flight, none_behind, one_gone}
+use Rattle.fs_core.proofs.Paying.{is_number, no, three, whole_says, reply_is, aside_is, interim_is, the_flight, none_behind, one_gone}
+use Rattle.fs_core.proofs.Bodies.{call_whole}
 use Rattle.fs_core.proofs.Honestly.{honest_judged}
 
 -- a reply to the one flight is not passed over
@@ -60,7 +62,7 @@ pass_one s r items begun f p ps low passed old [] is settled sound = absurd sett
 pass_one s r items begun f p ps low passed old (owed.Interim m q ∷ paid) is settled sound =
     interim_related s r (with_hand (p ∷ ps) (awaiting items begun f)) old m q paid p ps is refl
 pass_one s r items begun f p ps low passed old (owed.Reply m q reply ∷ paid) is settled sound =
-    let it = reply_is m q p reply settled.0 in
+    let it = reply_is m q p (masked q reply) settled.0 in
     let one = the_flight (IsFor true q) m f (λ none. none) sound.0.1 in
     absurd (not_passed f m q p it.0 low one.0 it.1 it.2.answers_it it.2.final passed)
 pass_one s r items begun f p ps low passed old (owed.Aside m q ∷ paid) is settled sound =
@@ -107,11 +109,13 @@ aside_lands request items begun f part behind own final s r old = aside_by reque
 same_some : {X : Type 0} (x y : X) (o : Option X) → o ≡ Some x → o ≡ Some y → x ≡ y
 same_some x y o is is' = search rules
 
-one_said : (m : Mid) (q part : List ℕ) (reply reply' : Rep) (command : ℕ) → command_of q ≡ command → reply_in m q part ≡ Some reply → Says command part reply' → reply ≡ reply'
-one_said m q part reply reply' command same is says =
-    let it = reply_is m q part reply is in
-    let says' : reply_by_status it.0.status.0 command part ≡ Some reply' = subst (λ (h : Result Head HeadFault). SaysWith h command part reply') it.1 says in
-    same_some reply reply' (reply_by_status it.0.status.0 command part) (subst (λ (c : ℕ). reply_by_status it.0.status.0 c part ≡ Some reply) same it.2.says) says'
+one_said : (m : Mid) (q part : List ℕ) (reply reply' : Rep) (command : ℕ) → untold q ≡ Nothing → command_of q ≡ command → reply_in m q part ≡ Some (masked q reply)
+    → Says command part reply' → reply ≡ reply'
+one_said m q part reply reply' command whole same is says =
+    let it = reply_is m q part (masked q reply) is in
+    let says' : reply_by_status Nothing it.0.status.0 command part ≡ Some reply' = subst (λ (h : Result Head HeadFault). SaysWith h command part reply') it.1 says in
+    same_some reply reply' (reply_by_status Nothing it.0.status.0 command part)
+    (subst (λ (c : ℕ). reply_by_status Nothing it.0.status.0 c part ≡ Some reply) same (whole_says q part it.0.status.0 (command_of q) reply whole it.2.says)) says'
 
 -- the reply to a call's request
 call_by : (request : Awaited) (s : Share) (r : Replay) (items : List Item) (begun : List ℕ) (f : Flight) (n : ℕ) (part : List ℕ) (behind : List (List ℕ)) (reply : Rep)
@@ -124,7 +128,8 @@ call_by request s r items begun f n part behind reply own command final says old
     let one = the_flight (IsFor true q) m f (λ none. none) sound.0.1 in
     let gone : flights_but m (f ∷ []) ≡ [] = one_gone m f one.0 in
     let mid : m ≡ f.mid = ap (λ (k : ℕ). record { 0 = k }) (sym (is_number f.mid.0 m.0 one.0)) in
-    let same : reply' ≡ reply = one_said m q part reply' reply request.command (ap command_of (sym one.1.0) ∙ command) settled.0 says in
+    let whole : untold q ≡ Nothing = ap untold (sym one.1.0) ∙ call_whole f.owner items f one.1.1 old.belongs.0 in
+    let same : reply' ≡ reply = one_said m q part reply' reply request.command whole (ap command_of (sym one.1.0) ∙ command) settled.0 says in
     let left : Related s r (with_reply m reply' (with_hand behind (awaiting items begun f))) = reply_related s r (with_hand (part ∷ behind) (awaiting items begun f)) old m q reply' paid part behind is refl in
     let none : behind ≡ [] = none_behind paid s.owed behind (subst (λ (l : List Flight). Sound l (paid ++ s.owed)) gone sound.1) settled.1 in
     subst (λ (k : Mid). Related s r (resting (map (land k reply) items) begun (f.mid.0 + 1))) mid
@@ -146,25 +151,27 @@ call_lands request items begun f n part behind reply own command final says s r 
 none_some : (o : Option Rep) (reply : Rep) → o ≡ None → o ≡ Some reply → ⊥
 none_some o reply is is' = search rules
 
-says_by : (request : Awaited) (f : Flight) (n : ℕ) (part : List ℕ) (fault : kinds.ReplyFault) (behind : List (List ℕ)) (owed' : List Owed) → f.owner ≡ Some n → command_of f.message ≡ request.command
+says_by : (request : Awaited) (items : List Item) (f : Flight) (n : ℕ) (part : List ℕ) (fault : kinds.ReplyFault) (behind : List (List ℕ)) (owed' : List Owed) → Belongs items f → f.owner ≡ Some n → command_of f.message ≡ request.command
     → IsFinal request part → SaysNothing request.command part fault → (paid : List Owed) → Settles paid (part ∷ behind) → Sound (f ∷ []) (paid ++ owed') → ⊥
-says_by request f n part fault behind owed' own command final nothing [] settled sound = absurd settled
-says_by request f n part fault behind owed' own command final nothing (owed.Interim m q ∷ paid) settled sound = not_interim request m q part final settled.0
-says_by request f n part fault behind owed' own command final nothing (owed.Reply m q reply ∷ paid) settled sound =
-    let it = reply_is m q part reply settled.0 in
+says_by request items f n part fault behind owed' belongs own command final nothing [] settled sound = absurd settled
+says_by request items f n part fault behind owed' belongs own command final nothing (owed.Interim m q ∷ paid) settled sound = not_interim request m q part final settled.0
+says_by request items f n part fault behind owed' belongs own command final nothing (owed.Reply m q reply ∷ paid) settled sound =
+    let it = reply_is m q part (masked q reply) settled.0 in
     let one = the_flight (IsFor true q) m f (λ none. none) sound.0.1 in
-    none_some (reply_by_status it.0.status.0 request.command part) reply (subst (λ (h : Result Head HeadFault). SaysNothingWith h request.command part fault) it.1 nothing).0
-    (subst (λ (c : ℕ). reply_by_status it.0.status.0 c part ≡ Some reply) (ap command_of (sym one.1.0) ∙ command) it.2.says)
-says_by request f n part fault behind owed' own command final nothing (owed.Aside m q ∷ paid) settled sound =
+    let whole : untold q ≡ Nothing = ap untold (sym one.1.0) ∙ call_whole f.owner items f one.1.1 belongs in
+    none_some (reply_by_status Nothing it.0.status.0 request.command part) reply (subst (λ (h : Result Head HeadFault). SaysNothingWith h request.command part fault) it.1 nothing).0
+    (subst (λ (c : ℕ). reply_by_status Nothing it.0.status.0 c part ≡ Some reply) (ap command_of (sym one.1.0) ∙ command)
+    (whole_says q part it.0.status.0 (command_of q) reply whole it.2.says))
+says_by request items f n part fault behind owed' belongs own command final nothing (owed.Aside m q ∷ paid) settled sound =
     let one = the_flight (IsFor false q) m f (λ none. none) sound.0 in
     no _ (ap is_of_call own) one.1.1
-says_by request f n part fault behind owed' own command final nothing (owed.Notice key state wanted ∷ paid) settled sound = sound
+says_by request items f n part fault behind owed' belongs own command final nothing (owed.Notice key state wanted ∷ paid) settled sound = sound
 
 pub says_something : (request : Awaited) (items : List Item) (begun : List ℕ) (f : Flight) (n : ℕ) (part : List ℕ) (fault : kinds.ReplyFault) (behind : List (List ℕ)) → f.owner ≡ Some n
     → command_of f.message ≡ request.command → IsFinal request part → SaysNothing request.command part fault
     → (s : Share) (r : Replay) → Related s r (with_hand (part ∷ behind) (awaiting items begun f)) → ⊥
 says_something request items begun f n part fault behind own command final nothing s r old =
-    says_by request f n part fault behind s.owed own command final nothing old.paid old.in_hand old.sound
+    says_by request items f n part fault behind s.owed old.belongs.0 own command final nothing old.paid old.in_hand old.sound
 
 -- a wait for a reply has come so far: nothing is held, and fewer frames came than may
 pub record Waiting (request : Awaited) (begin now : Option (List Event)) (held : List ℕ) (received next first patience large : ℕ) : Type 0 where

@@ -19,6 +19,7 @@ use Rattle.smb_link.specs.declared.mark.Mark.{Mark}
 use Rattle.smb_link.specs.declared.mark.Mark.TheVariants as mark
 use Rattle.smb_link.specs.Came.{Seen, Came}
 use Rattle.fs_plain.specs.World.{mid_of}
+use Rattle.fs_plain.specs.Masked.{Nothing}
 use Rattle.fs_plain.specs.Replies.{command_of, reply_by_status}
 use Rattle.fs_core.specs.declared.listen.Heard.{Heard}
 use Rattle.fs_core.specs.declared.listen.Heard.TheVariants as heard
@@ -173,7 +174,7 @@ RequestedSo number mid message result events =
 abbrev pub SaysNothingWith : Result Head HeadFault → ℕ → List ℕ → kinds.ReplyFault → Type 0
 SaysNothingWith (Err bad) command part fault = fault ≡ kind.Head
 SaysNothingWith (Ok head) command part fault =
-    (reply_by_status head.status.0 command part ≡ None) × ((fault ≡ kind.Body) ⊎ ((fault ≡ kind.Info) × (command ≡ QUERY_INFO)))
+    (reply_by_status Nothing head.status.0 command part ≡ None) × ((fault ≡ kind.Body) ⊎ ((fault ≡ kind.Info) × (command ≡ QUERY_INFO)))
 
 abbrev pub SaysNothing : ℕ → List ℕ → kinds.ReplyFault → Type 0
 SaysNothing command part fault = SaysNothingWith (head_of part) command part fault

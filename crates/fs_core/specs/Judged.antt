@@ -1,14 +1,16 @@
 -- What the messages of a frame are to a client that awaits the reply to one request, or to none (MS-SMB2 3.2.5.1).
-use Rattle.std.specs.Prelude.{◌≡◌, ◌<◌, ◌⊎◌, IfSome, ℕ, zero, suc, ◌==◌, ◌^◌, ◌-◌, Bool, true, false, ◌&&◌, ◌||◌, if◌then◌else◌, List, ◌∷◌, ◌++◌, length, Option, Some, None, is_some, Result, Ok, Err}
+use Rattle.std.specs.Prelude.{◌≡◌, ◌<◌, ◌⊎◌, IfSome, ℕ, zero, suc, ◌==◌, ◌^◌, ◌-◌, Bool, true, false, ◌&&◌, ◌||◌, if◌then◌else◌, List, ◌∷◌, ◌++◌, length, Option, Some, None, is_some, is_ok, Result, Ok, Err}
 use Rattle.std.specs.List.{AllByRecursion}
-use Rattle.smb_le.specs.Numbers.{number_at}
 use Rattle.smb_head.specs.declared.command.TheConstants.{CREATE, CLOSE, QUERY_INFO, OPLOCK_BREAK}
 use Rattle.smb_head.specs.declared.head.Head.{Head}
 use Rattle.smb_head.specs.declared.head.HeadFault.{HeadFault}
 use Rattle.smb_head.specs.Header.{head_of}
 use Rattle.smb_chain.specs.Parts.{Step, Only, Then, Bad, step_of, step_from}
 use Rattle.share_spec.specs.State.{has}
-use Rattle.fs_plain.specs.Wire.{has_body, lies}
+use Rattle.smb_body_b.specs.Close.{close_reply_of}
+use Rattle.smb_body_c.specs.Directory.{buffer_reply_of}
+use Rattle.smb_body_c.specs.Lease.{lease_break_of}
+use Rattle.fs_plain.specs.Masked.{Nothing}
 use Rattle.share_spec.specs.declared.request.Rep.{Rep}
 use Rattle.fs_plain.specs.Replies.{is_error, is_interim, opened_in, is_aside_by_status, reply_by_status}
 use Rattle.fs_core.specs.declared.reply_kind.Awaited.{Awaited}
@@ -25,9 +27,9 @@ use denote.Ref.{Bor}
 -- asked later
 abbrev pub has_done_body : ℕ → List ℕ → Bool
 has_done_body command message =
-    if command == CREATE then is_some (opened_in message)
-    else if command == CLOSE then has_body 60 message
-    else has_body 9 message && lies 9 (number_at 2 66 message) (number_at 4 68 message) message
+    if command == CREATE then is_some (opened_in Nothing message)
+    else if command == CLOSE then is_ok (close_reply_of message)
+    else is_ok (buffer_reply_of message)
 
 abbrev pub has_share_body : ℕ → ℕ → List ℕ → Bool
 has_share_body status command message = if is_done status command then has_done_body command message else is_error message
@@ -39,7 +41,7 @@ has_reply_body status command message =
 
 -- the notice that a lease is broken (MS-SMB2 2.2.23.2)
 abbrev pub is_notice : Head → List ℕ → Bool
-is_notice head message = head.command == OPLOCK_BREAK && has head.flags.0 1 && head.status.0 == 0 && has_body 44 message
+is_notice head message = head.command == OPLOCK_BREAK && has head.flags.0 1 && head.status.0 == 0 && is_ok (lease_break_of message)
 
 -- a reply to the request that is awaited: an interim one, or the final one
 abbrev pub look_at_final : Head → List ℕ → Look
@@ -184,10 +186,10 @@ abbrev pub Brings : Awaited → List (List ℕ) → Option (List ℕ) → Type 0
 Brings request messages None = AllByRecursion IsPassed messages
 Brings request messages (Some part) = Replies request part messages
 
--- what a message says that is the final reply of this status to this command
+-- what a message says that is the final reply of this status to this command, whose request is told everything
 abbrev pub SaysWith : Result Head HeadFault → ℕ → List ℕ → Rep → Type 0
 SaysWith (Err fault) command part reply = ⊥
-SaysWith (Ok head) command part reply = reply_by_status head.status.0 command part ≡ Some reply
+SaysWith (Ok head) command part reply = reply_by_status Nothing head.status.0 command part ≡ Some reply
 
 abbrev pub Says : ℕ → List ℕ → Rep → Type 0
 Says command part reply = SaysWith (head_of part) command part reply

@@ -1,12 +1,8 @@
 -- What the client's reader of replies gives, beside what a reply says, and which faults it has.
-use Rattle.std.specs.Prelude.{◌≡◌, ℕ, ◌==◌, Bool, ◌&&◌, ◌||◌, List, slice_index, Option, Some, None, Result, Ok, Err}
-use Rattle.smb_le.specs.Numbers.{number_at}
+use Rattle.std.specs.Prelude.{◌≡◌, ℕ, ◌==◌, Bool, ◌&&◌, ◌||◌, Option, Some, None, Result, Ok, Err}
 use Rattle.smb_head.specs.declared.command.TheConstants.{CREATE, CLOSE, QUERY_INFO}
-use Rattle.smb_body_b.specs.declared.create.CreateReply.{CreateReply}
 use Rattle.share_spec.specs.declared.request.Rep.{Rep}
 use Rattle.share_spec.specs.declared.request.RepBody.{RepBody}
-use Rattle.fs_plain.specs.Wire.{has_body, lies, bytes_at}
-use Rattle.fs_plain.specs.Requests.{fid_at}
 use Rattle.fs_core.specs.declared.read.WireFault.{WireFault}
 use Rattle.fs_core.specs.declared.read.WireFault.TheVariants as fault
 
@@ -36,16 +32,3 @@ is_done status command = status == 0 || (status == 0x80000005 && command == QUER
 -- the commands whose replies are read: CREATE, CLOSE and QUERY_INFO
 abbrev pub is_known : ℕ → Bool
 is_known command = command == CREATE || command == CLOSE || command == QUERY_INFO
-
--- a message has the body of a reply to a CREATE, whose contexts lie in it
-abbrev pub is_opened : List ℕ → Bool
-is_opened message = has_body 89 message && lies 89 (number_at 4 144 message) (number_at 4 148 message) message
-
--- the fields of such a body are those of a message
-pub record IsOpenedIn (x : CreateReply) (message : List ℕ) : Type 0 where
-  pub contexts : x.contexts.now ≡ bytes_at (number_at 4 144 message) (number_at 4 148 message) message
-  pub level : x.oplock_level ≡ slice_index message 66
-  pub action : x.action ≡ number_at 4 68 message
-  pub size : x.end_of_file ≡ number_at 8 112 message
-  pub attributes : x.attributes ≡ number_at 4 120 message
-  pub fid : x.file_id ≡ fid_at 128 message

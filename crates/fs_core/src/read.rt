@@ -1,13 +1,14 @@
 //! What a reply says.
 
-ghost use Rattle.std.specs.Prelude.{◌≡◌, ◌==◌, not, true, false, bit_and, None, Some, Err, IfOk, IfErr, if◌then◌else◌};
-ghost use Rattle.share_spec.specs.State.{has};
+ghost use Rattle.std.specs.Prelude.{◌≡◌, true, false, bit_and, None, Some, Err, IfErr, if◌then◌else◌};
 ghost use Rattle.share_spec.specs.declared.request.RepBody.TheVariants as body;
-ghost use Rattle.fs_plain.specs.Replies.{granted_state, opened_in, opened_with, closed_in, info_of, info_in, body_in, is_error, reply_by_status, reply_of};
+ghost use Rattle.fs_plain.specs.Masked.{Nothing};
+ghost use Rattle.fs_plain.specs.Replies.{granted_state, opened_in, opened_with, closed_in, known_whole, info_of, info_in, body_in, is_error, reply_by_status, reply_of};
+ghost use Rattle.smb_body_b.specs.Create.{seen_create_reply};
 ghost use Rattle.smb_body_b.specs.Contexts.{read_of};
 ghost use Rattle.smb_field.specs.declared.field.BodyFault.TheVariants as body_fault;
 ghost use Rattle.fs_core.specs.declared.read.WireFault.TheVariants as fault;
-ghost use Rattle.fs_core.specs.Seen.{seen, seen_body, is_done, is_known, is_opened, IsOpenedIn, IsOfBody, IsOfReply};
+ghost use Rattle.fs_core.specs.Seen.{seen, seen_body, is_done, is_known, IsOfBody, IsOfReply};
 
 use share_spec::{Rep, RepBody};
 use smb_base::{Key, Status};
@@ -40,13 +41,14 @@ pub enum WireFault {
 }
 
 /// What the final reply with this status says to a request with this command: a CREATE, a CLOSE or a QUERY_INFO.
-/// `part` is the whole message, header and body. A query that knows more than was asked for counts as done. It takes no memory.
+/// `part` is the whole message, header and body. The request is one that is told everything: a QUERY_INFO for FileAllInformation, and no
+/// reclaim. A query that knows more than was asked for counts as done. It takes no memory.
 ///
 /// # Errors
 ///
 /// What the readers of the body and of the information refuse. A success of another command is a fault of value.
 pub fn read_reply(command: u16, status: Status, part: &[u8]) -> Result<Rep, WireFault>
-    ensures exact { seen result ≡ reply_by_status status.0 command part.now }
+    ensures exact { seen result ≡ reply_by_status Nothing status.0 command part.now }
     ensures unknown { is_done status.0 command ≡ true → is_known command ≡ false → result ≡ Err (fault.Body body_fault.Value) }
     ensures of_reply { IfErr result (IsOfReply command) }
 {
@@ -66,7 +68,7 @@ pub(crate) fn is_done(status: Status, command: u16) -> bool
 
 // What a reply of success says.
 fn done(command: u16, part: &[u8]) -> Result<Rep, WireFault>
-    ensures exact { seen result ≡ reply_of 0 (body_in command part.now) }
+    ensures exact { seen result ≡ reply_of 0 (body_in Nothing command part.now) }
     ensures unknown { is_known command ≡ false → result ≡ Err (fault.Body body_fault.Value) }
     ensures of_reply { IfErr result (IsOfReply command) }
 {
@@ -95,7 +97,7 @@ fn refused(status: Status, part: &[u8]) -> Result<Rep, WireFault>
 
 // The body of a reply of success, by the command of its request.
 fn read_body(command: u16, part: &[u8]) -> Result<RepBody, WireFault>
-    ensures exact { seen_body result ≡ body_in command part.now }
+    ensures exact { seen_body result ≡ body_in Nothing command part.now }
     ensures unknown { is_known command ≡ false → result ≡ Err (fault.Body body_fault.Value) }
     ensures of_reply { IfErr result (IsOfReply command) }
 {
@@ -109,32 +111,18 @@ fn read_body(command: u16, part: &[u8]) -> Result<RepBody, WireFault>
 
 // What a CREATE gave.
 pub(crate) fn read_opened(part: &[u8]) -> Result<RepBody, WireFault>
-    ensures exact { seen_body result ≡ opened_in part.now }
-    ensures of_body { IfErr result IsOfBody }
-{
-    match create_of(part) {
-        Ok(create) => with_contexts(&create, part),
-        Err(fault) => Err(fault),
-    }
-}
-
-// The body of a reply to a CREATE.
-fn create_of(part: &[u8]) -> Result<CreateReply<'_>, WireFault>
-    ensures fields { IfOk result (λ x. IsOpenedIn x part.now) }
-    ensures is { IfOk result (λ _. is_opened part.now ≡ true) }
-    ensures is_not { IfErr result (λ _. is_opened part.now ≡ false) }
+    ensures exact { seen_body result ≡ opened_in Nothing part.now }
     ensures of_body { IfErr result IsOfBody }
 {
     match read_create_reply(part) {
-        Ok(create) => Ok(create),
+        Ok(create) => with_contexts(&create),
         Err(fault) => Err(WireFault::Body(fault)),
     }
 }
 
 // What a CREATE gave, with the contexts of its reply.
-fn with_contexts(create: &CreateReply<'_>, part: &[u8]) -> Result<RepBody, WireFault>
-    requires { IsOpenedIn create.now part.now }
-    ensures exact { seen_body result ≡ opened_with part.now (read_of true create.now.contexts.now) }
+fn with_contexts(create: &CreateReply<'_>) -> Result<RepBody, WireFault>
+    ensures exact { seen_body result ≡ opened_with Nothing (seen_create_reply create.now) (read_of true create.now.contexts.now) }
     ensures of_body { IfErr result IsOfBody }
 {
     match read_contexts(create.contexts, true) {
@@ -194,7 +182,7 @@ fn read_closed(part: &[u8]) -> Result<RepBody, WireFault>
 
 // What is known of a file.
 fn read_info(part: &[u8]) -> Result<RepBody, WireFault>
-    ensures { seen_body result ≡ info_in part.now }
+    ensures { seen_body result ≡ info_in Nothing part.now }
 {
     match read_buffer_reply(part) {
         Ok(reply) => info_of(reply.buffer),
@@ -204,7 +192,7 @@ fn read_info(part: &[u8]) -> Result<RepBody, WireFault>
 
 // What the information of a file says.
 fn info_of(info: &[u8]) -> Result<RepBody, WireFault>
-    ensures { seen_body result ≡ info_of info.now }
+    ensures { seen_body result ≡ info_of Nothing info.now }
 {
     match read_all(info) {
         Ok(all) => Ok(known(&all)),
@@ -214,8 +202,7 @@ fn info_of(info: &[u8]) -> Result<RepBody, WireFault>
 
 // The same by its fields.
 fn known(all: &All) -> RepBody
-    ensures { result ≡ body.Info (not (all.now.standard.directory == 0)) all.now.standard.end_of_file (has all.now.basic.attributes 1)
-        all.now.standard.links (not (all.now.standard.delete_pending == 0)) all.now.internal.number }
+    ensures { result ≡ known_whole all.now }
 {
     RepBody::Info {
         dir: all.standard.directory != 0,

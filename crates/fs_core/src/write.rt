@@ -8,7 +8,7 @@ ghost use Rattle.smb_head.specs.Header.{FitsHeader, header};
 ghost use Rattle.smb_head.specs.Stream.{frame, first_of};
 ghost use Rattle.share_spec.specs.declared.request.Req.TheVariants as req;
 ghost use Rattle.fs_plain.specs.Wire.{units_in};
-ghost use Rattle.fs_plain.specs.Requests.{wire_request, WireRequest};
+ghost use Rattle.fs_plain.specs.Requests.{wire_request, WireRequest, Asks};
 ghost use Rattle.fs_plain.specs.Replies.{command_of};
 ghost use Rattle.fs_plain.specs.World.{mid_of, messages_of};
 ghost use Rattle.fs_plain.specs.Taken.{wished_attributes};
@@ -104,8 +104,8 @@ pub fn create_message(
     requires high { disposition ≤ 5 }
     ensures whole { IfOk result (λ m. m ≡ message_of place CREATE (spelling_of_two 57
         (create_fields access disposition options (bytes_of_units path.now)) (bytes_of_units path.now) [])) }
-    ensures asked { IfOk result (λ m. wire_request m ≡ Some (WireRequest.Share false
-        (req.Create path.now access 7 disposition options (wished_attributes options) None false))) }
+    ensures asked { IfOk result (λ m. Asks m
+        (req.Create path.now access 7 disposition options (wished_attributes options) None false)) }
     ensures mid { IfOk result (λ m. mid_of m ≡ place.mid) }
     ensures command { IfOk result (λ m. command_of m ≡ CREATE) }
     ensures alone { IfOk result (λ m. IsAlone m) }
@@ -200,7 +200,7 @@ fn put_unit(bytes: &mut Vec<u8>, unit: u16) -> Result<(), NoMemory>
 /// Want of memory alone.
 pub fn query_message(alloc: Global, place: RequestPlace, fid: Fid) -> Result<Bytes, NoMemory>
     ensures whole { IfOk result (λ m. m ≡ message_of place QUERY_INFO (spelling 41 (query_fields fid) [])) }
-    ensures asked { IfOk result (λ m. wire_request m ≡ Some (WireRequest.Share false (req.Query fid))) }
+    ensures asked { IfOk result (λ m. Asks m (req.Query fid)) }
     ensures mid { IfOk result (λ m. mid_of m ≡ place.mid) }
     ensures command { IfOk result (λ m. command_of m ≡ QUERY_INFO) }
     ensures alone { IfOk result (λ m. IsAlone m) }
@@ -225,7 +225,7 @@ pub fn query_message(alloc: Global, place: RequestPlace, fid: Fid) -> Result<Byt
 /// Want of memory alone.
 pub fn close_message(alloc: Global, place: RequestPlace, fid: Fid) -> Result<Bytes, NoMemory>
     ensures whole { IfOk result (λ m. m ≡ message_of place CLOSE (spelling 24 (close_fields fid) [])) }
-    ensures asked { IfOk result (λ m. wire_request m ≡ Some (WireRequest.Share false (req.Close fid))) }
+    ensures asked { IfOk result (λ m. Asks m (req.Close fid)) }
     ensures mid { IfOk result (λ m. mid_of m ≡ place.mid) }
     ensures command { IfOk result (λ m. command_of m ≡ CLOSE) }
     ensures alone { IfOk result (λ m. IsAlone m) }

@@ -1,5 +1,5 @@
 -- Frames of a client and a server, written by hand from the tables of MS-SMB2 2.2.
-use Rattle.std.specs.Prelude.{ℕ, List, [], ◌∷◌}
+use Rattle.std.specs.Prelude.{ℕ, List, [], ◌∷◌, ◌++◌, take, drop, set}
 
 -- the CREATE request of the root, message id 0
 abbrev pub create_frame : List ℕ
@@ -91,3 +91,21 @@ missing_chain_frame =
     0 ∷ 0 ∷ 0 ∷ 0 ∷ 2 ∷ 0 ∷ 0 ∷ 0 ∷ 0 ∷ 0 ∷ 0 ∷ 0 ∷ 0 ∷ 0 ∷ 0 ∷ 0 ∷ 1 ∷ 0 ∷ 0 ∷ 0 ∷ 1 ∷ 0 ∷ 0 ∷ 0 ∷ 0 ∷ 0 ∷ 0 ∷ 0 ∷ 0 ∷ 0 ∷ 0 ∷
     0 ∷ 0 ∷ 0 ∷ 0 ∷ 0 ∷ 0 ∷ 0 ∷ 0 ∷ 0 ∷ 0 ∷ 0 ∷ 0 ∷ 0 ∷ 24 ∷ 0 ∷ 0 ∷ 0 ∷ 0 ∷ 0 ∷ 0 ∷ 0 ∷ 255 ∷ 255 ∷ 255 ∷ 255 ∷ 255 ∷ 255 ∷ 255 ∷
     255 ∷ 255 ∷ 255 ∷ 255 ∷ 255 ∷ 255 ∷ 255 ∷ 255 ∷ 255 ∷ []
+
+-- the QUERY_INFO and the CLOSE of open 2 once more, the QUERY_INFO of FileStandardInformation (class 5)
+abbrev pub standard_frame : List ℕ
+standard_frame = set both_frame 71 5
+
+-- their replies in one frame: what that class has of a directory with one link (MS-FSCC 2.4.41)
+abbrev pub told_standard_frame : List ℕ
+told_standard_frame =
+    0 ∷ 0 ∷ 0 ∷ 220 ∷ (set (take 64 (drop 4 told_frame)) 20 96
+    ++ (9 ∷ 0 ∷ 72 ∷ 0 ∷ 24 ∷ 0 ∷ 0 ∷ 0 ∷ 0 ∷ 0 ∷ 0 ∷ 0 ∷ 0 ∷ 0 ∷ 0 ∷ 0 ∷ 0 ∷ 0 ∷ 0 ∷ 0 ∷ 0 ∷ 0 ∷ 0 ∷ 0
+    ∷ 1 ∷ 0 ∷ 0 ∷ 0 ∷ 0 ∷ 1 ∷ 0 ∷ 0 ∷ drop 180 told_frame))
+
+-- a CREATE that reclaims open 2 (MS-SMB2 2.2.13.2.4), message id 0, without its length in front
+abbrev pub reclaim_message : List ℕ
+reclaim_message =
+    set (set (take 120 (drop 4 create_frame)) 112 120) 116 40
+    ++ (0 ∷ 0 ∷ 0 ∷ 0 ∷ 16 ∷ 0 ∷ 4 ∷ 0 ∷ 0 ∷ 0 ∷ 24 ∷ 0 ∷ 16 ∷ 0 ∷ 0 ∷ 0 ∷ 68 ∷ 72 ∷ 110 ∷ 67 ∷ 0 ∷ 0 ∷ 0 ∷ 0
+    ∷ 2 ∷ 0 ∷ 0 ∷ 0 ∷ 0 ∷ 0 ∷ 0 ∷ 0 ∷ 2 ∷ 0 ∷ 0 ∷ 0 ∷ 0 ∷ 0 ∷ 0 ∷ 0 ∷ [])

@@ -20,6 +20,14 @@ use Rattle.smb_chain.specs.Parts.{step_of, parts_of}
 use Rattle.smb_body_b.specs.Contexts.{read_of, contexts_of, set_of}
 use Rattle.smb_names.specs.Path as path
 use Rattle.smb_names.specs.WireName.{fault_of, spelling}
+use Rattle.smb_field.specs.Rows.{part_in}
+use Rattle.smb_body_b.specs.Close.{close_request_of, close_reply_of}
+use Rattle.smb_body_b.specs.Create.{create_request_of, create_reply_of}
+use Rattle.smb_body_c.specs.Directory.{buffer_reply_of}
+use Rattle.smb_body_c.specs.Error.{error_reply_of}
+use Rattle.smb_body_c.specs.Info.{query_info_request_of}
+use Rattle.smb_info.specs.Attributes.{all_of}
+use Rattle.fs_plain.specs.Masked.{untold}
 use Rattle.fs_plain.specs.Requests.{wire_request}
 use Rattle.fs_plain.specs.Replies.{reply_in, is_interim_of}
 use Rattle.fs_plain.specs.Honest.{IsHonest}
@@ -87,7 +95,7 @@ run = record { options = options; seed = []; status = 0 }
 
 -- it is the plain client's
 no_difference : difference run 1000 false story ≡ None
-unfolding components wire_request reply_in is_interim_of head_of head_at number_at first_of frames_in rest_in step_of parts_of read_of contexts_of set_of path.components path.after_part fault_of spelling
+unfolding components wire_request reply_in is_interim_of head_of head_at number_at first_of frames_in rest_in step_of parts_of read_of contexts_of set_of path.components path.after_part fault_of spelling untold create_request_of close_request_of query_info_request_of part_in create_reply_of close_reply_of buffer_reply_of error_reply_of all_of
 no_difference = refl
 
 -- with another answer it is not: the seventeenth event differs
@@ -102,42 +110,42 @@ a_wrong_answer : difference run 1000 false (with_answer 2)
         found = answer.Stat (record { kind = kind.Dir; size = 0; mode = 493; links = 2; number = 1 });
       },
     )
-unfolding components wire_request reply_in is_interim_of head_of head_at number_at first_of frames_in rest_in step_of parts_of read_of contexts_of set_of path.components path.after_part fault_of spelling
+unfolding components wire_request reply_in is_interim_of head_of head_at number_at first_of frames_in rest_in step_of parts_of read_of contexts_of set_of path.components path.after_part fault_of spelling untold create_request_of close_request_of query_info_request_of part_in create_reply_of close_reply_of buffer_reply_of error_reply_of all_of
 a_wrong_answer = refl
 
 -- an answer before the second request of the three is taken
 an_early_answer : difference run 1000 false (take 13 story ++ event.Marked (mark.Answer 1 answer.Done) ∷ []) ≡ Some (14, odd)
-unfolding components wire_request reply_in is_interim_of head_of head_at number_at first_of frames_in rest_in step_of parts_of read_of contexts_of set_of path.components path.after_part fault_of spelling
+unfolding components wire_request reply_in is_interim_of head_of head_at number_at first_of frames_in rest_in step_of parts_of read_of contexts_of set_of path.components path.after_part fault_of spelling untold create_request_of close_request_of query_info_request_of part_in create_reply_of close_reply_of buffer_reply_of error_reply_of all_of
 an_early_answer = refl
 
 -- a second answer
 a_second_answer : difference run 1000 false (take 17 story ++ event.Marked (mark.Answer 1 answer.Done) ∷ []) ≡ Some (18, odd)
-unfolding components wire_request reply_in is_interim_of head_of head_at number_at first_of frames_in rest_in step_of parts_of read_of contexts_of set_of path.components path.after_part fault_of spelling
+unfolding components wire_request reply_in is_interim_of head_of head_at number_at first_of frames_in rest_in step_of parts_of read_of contexts_of set_of path.components path.after_part fault_of spelling untold create_request_of close_request_of query_info_request_of part_in create_reply_of close_reply_of buffer_reply_of error_reply_of all_of
 a_second_answer = refl
 
 -- a frame that does not hold the two requests that the mark before it names
 a_short_frame : difference run 1000 false (take 12 story ++ event.Sent create_frame ∷ []) ≡ Some (13, odd)
-unfolding components wire_request reply_in is_interim_of head_of head_at number_at first_of frames_in rest_in step_of parts_of read_of contexts_of set_of path.components path.after_part fault_of spelling
+unfolding components wire_request reply_in is_interim_of head_of head_at number_at first_of frames_in rest_in step_of parts_of read_of contexts_of set_of path.components path.after_part fault_of spelling untold create_request_of close_request_of query_info_request_of part_in create_reply_of close_reply_of buffer_reply_of error_reply_of all_of
 a_short_frame = refl
 
 -- it leaves the share as the plain client does, and nobody waits for it
 it_ends_clean : EndsClean run 1000 false story
-unfolding components wire_request reply_in is_interim_of head_of head_at number_at first_of frames_in rest_in step_of parts_of read_of contexts_of set_of path.components path.after_part fault_of spelling
+unfolding components wire_request reply_in is_interim_of head_of head_at number_at first_of frames_in rest_in step_of parts_of read_of contexts_of set_of path.components path.after_part fault_of spelling untold create_request_of close_request_of query_info_request_of part_in create_reply_of close_reply_of buffer_reply_of error_reply_of all_of
 it_ends_clean = λ left. record { nodes = refl; entries = refl; opens = refl }
 
 -- as long as its CLOSE is not taken it does not
 it_is_not_clean_before : EndsClean run 1000 false (take 13 story) → ⊥
-unfolding components wire_request reply_in is_interim_of head_of head_at number_at first_of frames_in rest_in step_of parts_of read_of contexts_of set_of path.components path.after_part fault_of spelling
+unfolding components wire_request reply_in is_interim_of head_of head_at number_at first_of frames_in rest_in step_of parts_of read_of contexts_of set_of path.components path.after_part fault_of spelling untold create_request_of close_request_of query_info_request_of part_in create_reply_of close_reply_of buffer_reply_of error_reply_of all_of
 it_is_not_clean_before clean = false≢true (clean refl).opens
 
 -- its first request is one frame, since one id may be used there
 it_is_thrifty : IsThrifty run 1000 false (take 6 story)
-unfolding components wire_request reply_in is_interim_of head_of head_at number_at first_of frames_in rest_in step_of parts_of read_of contexts_of set_of path.components path.after_part fault_of spelling
+unfolding components wire_request reply_in is_interim_of head_of head_at number_at first_of frames_in rest_in step_of parts_of read_of contexts_of set_of path.components path.after_part fault_of spelling untold create_request_of close_request_of query_info_request_of part_in create_reply_of close_reply_of buffer_reply_of error_reply_of all_of
 it_is_thrifty = (refl, (refl, (refl, (refl, (refl, (refl, nothing))))))
 
 -- and an honest share tells it
 it_is_honest : IsHonest 1000 false story
-unfolding components wire_request reply_in is_interim_of head_of head_at number_at first_of frames_in rest_in step_of parts_of read_of contexts_of set_of path.components path.after_part fault_of spelling
+unfolding components wire_request reply_in is_interim_of head_of head_at number_at first_of frames_in rest_in step_of parts_of read_of contexts_of set_of path.components path.after_part fault_of spelling untold create_request_of close_request_of query_info_request_of part_in create_reply_of close_reply_of buffer_reply_of error_reply_of all_of
 it_is_honest = (
   nothing,
   (

@@ -24,3 +24,4 @@ pub mod Moves
 pub mod Leading
 pub mod Leaving
 pub mod AlikeLaws
+pub mod Whole

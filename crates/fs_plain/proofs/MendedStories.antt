@@ -1,5 +1,6 @@
 -- Stories, each of which a looser reading of the rules would judge wrongly.
-use Rattle.std.proofs.Common.{◌≡◌, ℕ, true, false, [], ◌∷◌, ◌++◌, refl, None, Some, List, Bool}
+use Rattle.std.proofs.Common.{◌≡◌, ℕ, true, false, [], ◌∷◌, ◌++◌, refl, ap, None, Some, List, Option, Bool}
+use Rattle.std.proofs.lemmas.Bool.{false≢true}
 use Rattle.std.specs.Prelude.{codes, take, drop, set}
 use Rattle.std.specs.Str.{chars}
 use Rattle.smb_base.specs.declared.names.Key.{Key}
@@ -9,7 +10,10 @@ use Rattle.fs_types.specs.declared.answer.Answer.TheVariants as answer
 use Rattle.fs_types.specs.declared.call.Call.TheVariants as call
 use Rattle.share_spec.specs.declared.request.Req.{Req}
 use Rattle.share_spec.specs.declared.request.Rep.{Rep}
+use Rattle.share_spec.specs.declared.request.RepBody.{RepBody}
 use Rattle.share_spec.specs.declared.request.RepBody.TheVariants as body
+use Rattle.share_spec.specs.declared.connection.Owed.TheVariants as owed
+use Rattle.share_spec.specs.Reply.{fid_of}
 use Rattle.share_spec.specs.declared.share.Share.{Share}
 use Rattle.share_spec.specs.State.{Making}
 use Rattle.share_spec.specs.Names.{components}
@@ -20,26 +24,34 @@ use Rattle.smb_le.specs.Numbers.{number_at}
 use Rattle.smb_head.specs.Header.{head_of, head_at}
 use Rattle.smb_head.specs.Stream.{first_of, frames_in, rest_in}
 use Rattle.smb_chain.specs.Parts.{step_of, parts_of}
-use Rattle.smb_body_b.specs.Contexts.{read_of, contexts_of, set_of}
+use Rattle.smb_body_b.specs.Contexts.{read_of, contexts_of, set_of, chain_of, context_of, is_short}
 use Rattle.smb_names.specs.Path as path
 use Rattle.smb_names.specs.WireName.{fault_of, spelling}
+use Rattle.smb_field.specs.Rows.{part_in}
+use Rattle.smb_body_b.specs.Close.{close_request_of, close_reply_of}
+use Rattle.smb_body_b.specs.Create.{create_request_of, create_reply_of}
+use Rattle.smb_body_c.specs.Directory.{buffer_reply_of}
+use Rattle.smb_body_c.specs.Error.{error_reply_of}
+use Rattle.smb_body_c.specs.Info.{query_info_request_of}
+use Rattle.smb_info.specs.Attributes.{all_of, standard_of}
 use Rattle.fs_plain.specs.Requests.{wire_request, asked_lease, wanted_lease}
-use Rattle.fs_plain.specs.Replies.{reply_in, is_interim_of}
+use Rattle.fs_plain.specs.Replies.{reply_in, is_interim_of, Pays}
+use Rattle.fs_plain.specs.Honest.{IsHonest}
 use Rattle.fs_plain.specs.Replay.{Run, Replay}
 use Rattle.fs_plain.specs.Taken.{after_request}
 use Rattle.fs_plain.specs.Answered.{odd}
 use Rattle.fs_plain.specs.Differences.{difference}
 use Rattle.fs_plain.specs.Divergence.{divergence}
-use Rattle.fs_plain.specs.Masked.{masked}
-use Rattle.fs_plain.proofs.Frames.{create_frame, both_frame, chain_frame, missing_chain_frame}
-use Rattle.fs_plain.proofs.HonestStory.{mid, run, story}
+use Rattle.fs_plain.specs.Masked.{Untold, untold, masked}
+use Rattle.fs_plain.proofs.Frames.{create_frame, opened_frame, both_frame, told_frame, chain_frame, missing_chain_frame, standard_frame, told_standard_frame, reclaim_message}
+use Rattle.fs_plain.proofs.HonestStory.{mid, run, story, makes, lets_go}
 
 abbrev pub made : Making
 made = record { room = 1000; fold = false }
 
 -- the story of a whole stat diverges nowhere
 no_divergence : divergence run made story ≡ None
-unfolding components wire_request reply_in is_interim_of head_of head_at number_at first_of frames_in rest_in step_of parts_of read_of contexts_of set_of path.components path.after_part fault_of spelling
+unfolding components wire_request reply_in is_interim_of head_of head_at number_at first_of frames_in rest_in step_of parts_of read_of contexts_of set_of path.components path.after_part fault_of spelling untold create_request_of close_request_of query_info_request_of part_in create_reply_of close_reply_of buffer_reply_of error_reply_of all_of
 no_divergence = refl
 
 -- a run that ended by what the server sent
@@ -63,8 +75,8 @@ unfolding components path.components path.after_part fault_of spelling
 goes_on = refl
 
 -- a request without a mark that is related to a refused CREATE does nothing on the plain share, whatever it asks
-refused_does_nothing : (s : Share) (r : Replay) (request : Req) (real : Rep) → after_request s r None true request real ≡ r
-refused_does_nothing s r request real = refl
+refused_does_nothing : (s : Share) (r : Replay) (u : Untold) (request : Req) (real : Rep) → after_request s r None true u request real ≡ r
+refused_does_nothing s r u request real = refl
 
 -- a call that is not there may not begin
 not_there : difference run 1000 false (event.Joined ∷ event.Marked (mark.Begin 1 0 (call.Lstat (codes "/"))) ∷ []) ≡ Some (2, odd)
@@ -85,7 +97,7 @@ abbrev pub used_again : List Event
 used_again = take 6 story ++ event.Took (mid 0) ∷ event.Sent create_frame ∷ event.Took (mid 0) ∷ []
 
 nobodys : divergence run made used_again ≡ None
-unfolding components wire_request reply_in is_interim_of head_of head_at number_at first_of frames_in rest_in step_of parts_of read_of contexts_of set_of path.components path.after_part fault_of spelling
+unfolding components wire_request reply_in is_interim_of head_of head_at number_at first_of frames_in rest_in step_of parts_of read_of contexts_of set_of path.components path.after_part fault_of spelling untold create_request_of close_request_of query_info_request_of part_in create_reply_of close_reply_of buffer_reply_of error_reply_of all_of
 nobodys = refl
 
 -- two marks speak of one frame, each of one of its requests
@@ -94,7 +106,7 @@ marked_twice =
     take 11 story ++ event.Marked (mark.For 1 (mid 1) 1) ∷ event.Marked (mark.For 1 (mid 2) 1) ∷ event.Sent both_frame ∷ event.Took (mid 1) ∷ event.Took (mid 2) ∷ []
 
 both_speak : divergence run made marked_twice ≡ None
-unfolding components wire_request reply_in is_interim_of head_of head_at number_at first_of frames_in rest_in step_of parts_of read_of contexts_of set_of path.components path.after_part fault_of spelling
+unfolding components wire_request reply_in is_interim_of head_of head_at number_at first_of frames_in rest_in step_of parts_of read_of contexts_of set_of path.components path.after_part fault_of spelling untold create_request_of close_request_of query_info_request_of part_in create_reply_of close_reply_of buffer_reply_of error_reply_of all_of
 both_speak = refl
 
 -- a stat whose three requests go in one frame, under one mark: the two later ones are related to its CREATE
@@ -104,7 +116,7 @@ chained frame a =
     ∷ event.Marked (mark.Answer 1 a) ∷ []
 
 in_one_frame : divergence run made (chained chain_frame (answer.Stat (record { kind = kind.Dir; size = 0; mode = 493; links = 1; number = 1 }))) ≡ None
-unfolding components wire_request reply_in is_interim_of head_of head_at number_at first_of frames_in rest_in step_of parts_of read_of contexts_of set_of path.components path.after_part fault_of spelling
+unfolding components wire_request reply_in is_interim_of head_of head_at number_at first_of frames_in rest_in step_of parts_of read_of contexts_of set_of path.components path.after_part fault_of spelling untold create_request_of close_request_of query_info_request_of part_in create_reply_of close_reply_of buffer_reply_of error_reply_of all_of
 in_one_frame = refl
 
 -- where the CREATE is refused the two do nothing, and its refusal is the answer
@@ -117,7 +129,7 @@ missing =
     ∷ event.Took (mid 2) ∷ event.Marked (mark.Answer 1 (answer.Err (record { 0 = 2 }) None)) ∷ []
 
 refused_in_one_frame : divergence run made missing ≡ None
-unfolding chars components wire_request reply_in is_interim_of head_of head_at number_at first_of frames_in rest_in step_of parts_of read_of contexts_of set_of path.components path.after_part fault_of spelling
+unfolding chars components wire_request reply_in is_interim_of head_of head_at number_at first_of frames_in rest_in step_of parts_of read_of contexts_of set_of path.components path.after_part fault_of spelling untold create_request_of close_request_of query_info_request_of part_in create_reply_of close_reply_of buffer_reply_of error_reply_of all_of
 refused_in_one_frame = refl
 
 -- a file of five bytes, read-only and of number 9, as the share tells it, and as FileStandardInformation can
@@ -128,9 +140,87 @@ abbrev pub query : ℕ → List ℕ
 query class = set (drop 4 both_frame) 67 class
 
 standard_tells_less : masked (query 5) (info true 9) ≡ info false 0
-unfolding number_at
+unfolding number_at untold head_of head_at query_info_request_of
 standard_tells_less = refl
 
 all_tells_it_whole : masked (query 18) (info true 9) ≡ info true 9
-unfolding number_at
+unfolding number_at untold head_of head_at query_info_request_of
 all_tells_it_whole = refl
+
+abbrev nothing : Unit {0}
+nothing = record {}
+
+abbrev says_directory : RepBody → Bool
+says_directory (body.Info dir size read_only links pending number) = dir
+says_directory b = false
+
+abbrev is_a_directory : Option Rep → Bool
+is_a_directory None = false
+is_a_directory (Some reply) = says_directory reply.body
+
+-- FileStandardInformation is a question that the share takes; its reply tells neither the number of a file nor its read-only mark, and
+-- pays all the same
+abbrev pub asked_standard : List Event
+asked_standard =
+    event.Joined ∷ makes ∷ lets_go ∷ event.Sent create_frame ∷ event.Took (mid 0) ∷ event.Got opened_frame ∷ event.Sent standard_frame
+    ∷ event.Took (mid 1) ∷ event.Took (mid 2) ∷ event.Got told_standard_frame ∷ []
+
+standard_is_honest : IsHonest 1000 false asked_standard
+unfolding components wire_request reply_in is_interim_of head_of head_at number_at first_of frames_in rest_in step_of parts_of read_of contexts_of set_of path.components path.after_part fault_of spelling untold create_request_of close_request_of query_info_request_of part_in create_reply_of close_reply_of buffer_reply_of error_reply_of all_of standard_of
+standard_is_honest = (
+  nothing,
+  (
+    record { another = refl; built = refl; needs = refl; choice = refl; answered = refl },
+    (
+      record { another = refl; built = refl; needs = refl; choice = refl; answered = refl },
+      (
+        nothing,
+        (
+          (refl, (refl, refl)),
+          (
+            record { paid = (refl, nothing); sound = refl; held = nothing },
+            (
+              nothing,
+              (
+                (refl, (refl, refl)),
+                (
+                  (refl, (refl, refl)),
+                  (
+                    record { paid = (refl, (refl, nothing)); sound = refl; held = nothing },
+                    nothing,
+                  ),
+                ),
+              ),
+            ),
+          ),
+        ),
+      ),
+    ),
+  ),
+)
+
+-- the reply to the question for everything does not pay for it
+abbrev pub told_too_much : List Event
+told_too_much = take 9 asked_standard ++ event.Got told_frame ∷ []
+
+too_much_is_not_paid : IsHonest 1000 false told_too_much → ⊥
+unfolding components wire_request reply_in is_interim_of head_of head_at number_at first_of frames_in rest_in step_of parts_of read_of contexts_of set_of path.components path.after_part fault_of spelling untold create_request_of close_request_of query_info_request_of part_in create_reply_of close_reply_of buffer_reply_of error_reply_of all_of standard_of
+too_much_is_not_paid honest = false≢true (ap is_a_directory honest.1.1.1.1.1.1.1.1.1.0.paid.0)
+
+-- a stat is told everything: one that asks for FileStandardInformation is not the plain client's
+abbrev pub asks_less : List Event
+asks_less = take 12 story ++ event.Sent standard_frame ∷ event.Took (mid 1) ∷ []
+
+less_is_not_enough : divergence run made asks_less ≡ Some (14, odd)
+unfolding components wire_request reply_in is_interim_of head_of head_at number_at first_of frames_in rest_in step_of parts_of read_of contexts_of set_of path.components path.after_part fault_of spelling untold create_request_of close_request_of query_info_request_of part_in create_reply_of close_reply_of buffer_reply_of error_reply_of all_of
+less_is_not_enough = refl
+
+nor_in_the_replay : difference run 1000 false asks_less ≡ Some (14, odd)
+unfolding components wire_request reply_in is_interim_of head_of head_at number_at first_of frames_in rest_in step_of parts_of read_of contexts_of set_of path.components path.after_part fault_of spelling untold create_request_of close_request_of query_info_request_of part_in create_reply_of close_reply_of buffer_reply_of error_reply_of all_of
+nor_in_the_replay = refl
+
+-- a reclaim: the share's own reply says that the open is durable, and the message has no word for it
+reclaim_is_paid : Pays (owed.Reply (mid 0) reclaim_message (record { status = record { 0 = 0 }; body = body.Opened (fid_of 2) 1 0 0x10 0 true }))
+    (drop 4 opened_frame)
+unfolding components wire_request reply_in is_interim_of head_of head_at number_at first_of frames_in rest_in step_of parts_of read_of contexts_of set_of path.components path.after_part fault_of spelling untold create_request_of close_request_of query_info_request_of part_in create_reply_of close_reply_of buffer_reply_of error_reply_of all_of chain_of context_of is_short
+reclaim_is_paid = refl

@@ -132,8 +132,10 @@ wish_named opened (Query file) = ap (λ (fid : Fid). req.Query fid) (file_named 
 wish_named opened (Close file) = ap (λ (fid : Fid). req.Close fid) (file_named opened file)
 
 next_named : (rest : Program) (fids : List Fid) (opened : List ℕ) (message : List ℕ) → fids ≡ map fid_of opened → IsWish rest fids message → IsNext rest opened message
-next_named (Ask wish rest) fids opened message named is =
-    is ∙ ap (λ (l : List Fid). Some (WireRequest.Share false (wish_of (fid_of_file l) wish))) named ∙ ap (λ (q : Req). Some (WireRequest.Share false q)) (wish_named opened wish)
+next_named (Ask wish rest) fids opened message named is = (
+  is.0 ∙ ap (λ (l : List Fid). Some (WireRequest.Share false (wish_of (fid_of_file l) wish))) named ∙ ap (λ (q : Req). Some (WireRequest.Share false q)) (wish_named opened wish),
+  is.1,
+)
 next_named (Look rest) fids opened message named is = is
 next_named (Say answer) fids opened message named is = is
 

@@ -56,9 +56,9 @@ call_taken : (s : Share) (r : Replay) (v : View) (f : Flight) (p : Bool) (old : 
 unfolding Taken
 call_taken s r v f p old n i found owner item flying owned (Ask wish rest) asks asking =
     subst (λ (a : Option WireRequest). (odd_unless (is_right_asked s r (waiting_as f p) a) ≡ None)
-    × Related (after_taking a (waiting_as f p) s) (after_asked s r (waiting_as f p) a) v) (sym asking)
+    × Related (after_taking a (waiting_as f p) s) (after_asked s r (waiting_as f p) a) v) (sym asking.0)
     (owned_taken s r v f p old n i (the_owner n (owner_of f.mid r.owners) owned) wish rest found owner item flying asks
-    (owner_there n (owner_of f.mid r.owners) owned) (owner_number n (owner_of f.mid r.owners) owned))
+    (owner_there n (owner_of f.mid r.owners) owned) (owner_number n (owner_of f.mid r.owners) owned) asking.1)
 call_taken s r v f p old n i found owner item flying owned (Look rest) asks asking = absurd asking
 call_taken s r v f p old n i found owner item flying owned (Say a) asks asking = absurd asking
 

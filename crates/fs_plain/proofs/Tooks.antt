@@ -18,6 +18,7 @@ use Rattle.share_spec.specs.Step.{step_of}
 use Rattle.share_spec.specs.PlainShare.{plain_step, plain_request, shown}
 use Rattle.share_spec.specs.Sent.{behind_create, put_off, sent_but}
 use Rattle.smb_link.specs.Program.{Wish, Open as Opening, Query, Close, Program, Ask, settled}
+use Rattle.fs_plain.specs.Masked.{Untold, Nothing, untold}
 use Rattle.fs_plain.specs.Requests.{WireRequest}
 use Rattle.fs_plain.specs.Answered.{odd_unless}
 use Rattle.fs_plain.specs.World.{us, is_creating, after_done, after_aside, done_of, choice_now, came_to}
@@ -343,11 +344,11 @@ pub owned_taken : (s : Share) (r : Replay) (v : View) (f : Flight) (p : Bool) (o
     (n : ℕ) (i : Item) (o : Owner) (wish : Wish) (rest : Rep → Program)
     → flight_with f.mid (left v.flights (old.paid ++ s.owed)) ≡ Some f → f.owner ≡ Some n
     → item_with n v.items ≡ Some i → i.flying ≡ Some f.mid → i.rest ≡ Ask wish rest
-    → owner_of f.mid r.owners ≡ Some o → o.number ≡ n
+    → owner_of f.mid r.owners ≡ Some o → o.number ≡ n → untold f.message ≡ Nothing
     → (odd_unless (is_right_asked s r (waiting_as f p) (Some (WireRequest.Share false (wish_of (plain_fid i.opened) wish)))) ≡ None)
     × Related (after_done (waiting_as f p) (wish_of (plain_fid i.opened) wish) (done_of (choice_now s.grants) s false last.Nothing (wish_of (plain_fid i.opened) wish)))
     (after_asked s r (waiting_as f p) (Some (WireRequest.Share false (wish_of (plain_fid i.opened) wish)))) v
-owned_taken s r v f p old n i o wish rest found owner item flying asks owned number =
+owned_taken s r v f p old n i o wish rest found owner item flying asks owned number whole =
     let coming : List Owed = old.paid ++ s.owed in
     let request : Req = wish_of (plain_fid i.opened) wish in
     let done : Rep × Share = step_of (choice_now s.grants) s us request in
@@ -365,14 +366,16 @@ owned_taken s r v f p old n i o wish rest found owner item flying asks owned num
     ap (λ (t : Share). plain_step t us (wish_of (plain_fid c.opened) wish)) old.tree
     ∙ ap (λ (l : List ℕ). plain_step (bare s) us (wish_of (plain_fid l) wish)) (not_opened coming f.mid i flying none)
     ∙ wish_done (choice_now s.grants) s i.opened wish in
-    let next_is : after_wish_done r c rest (bare_of done) done.0 ≡ after_asked s r (waiting_as f p) (Some (WireRequest.Share false request)) =
-    ap (λ (d : Rep × Share). after_wish_done r c rest d done.0) (sym plainly)
-    ∙ ap (λ (t : Program). after_next r c (settled o.known t) done.0) (sym left_over)
-    ∙ ap (λ (t : Option Running). after_owned r t o.known false done.0) (sym run_on)
-    ∙ ap (λ (t : Option Owner). after_request s r t false request done.0) (sym owned) in (
-      ap (λ (t : Option Owner). odd_unless (is_right_request s r t false request)) owned
-          ∙ ap (λ (t : Option Running). odd_unless (is_right_owned t o.known false request)) run_on
-          ∙ ap (λ (t : Program). odd_unless (is_next (settled o.known t) request)) left_over
+    let next_is : after_wish_done r c rest Nothing (bare_of done) done.0 ≡ after_asked s r (waiting_as f p) (Some (WireRequest.Share false request)) =
+    ap (λ (d : Rep × Share). after_wish_done r c rest Nothing d done.0) (sym plainly)
+    ∙ ap (λ (t : Program). after_next r c Nothing (settled o.known t) done.0) (sym left_over)
+    ∙ ap (λ (t : Option Running). after_owned r t o.known false Nothing done.0) (sym run_on)
+    ∙ ap (λ (t : Option Owner). after_request s r t false Nothing request done.0) (sym owned)
+    ∙ ap (λ (u : Untold). after_request s r (owner_of f.mid r.owners) false u request done.0) (sym whole) in (
+      ap (λ (u : Untold). odd_unless (is_right_request s r (owner_of f.mid r.owners) false u request)) whole
+          ∙ ap (λ (t : Option Owner). odd_unless (is_right_request s r t false Nothing request)) owned
+          ∙ ap (λ (t : Option Running). odd_unless (is_right_owned t o.known false Nothing request)) run_on
+          ∙ ap (λ (t : Program). odd_unless (is_next (settled o.known t) Nothing request)) left_over
           ∙ ap odd_unless (wished_itself i.opened wish),
       subst (λ (next : Replay). Related (after_done (waiting_as f p) request done) next v) next_is (record {
         tree = refl;

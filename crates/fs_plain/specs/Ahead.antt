@@ -12,6 +12,7 @@ use Rattle.share_spec.specs.declared.request.RepBody.{RepBody}
 use Rattle.share_spec.specs.State.{has}
 use Rattle.smb_link.specs.declared.event.Event.{Event}
 use Rattle.smb_link.specs.declared.event.Event.TheVariants as event
+use Rattle.fs_plain.specs.Masked.{Nothing}
 use Rattle.fs_plain.specs.Replies.{is_interim, opened_in}
 use Rattle.fs_plain.specs.World.{messages_in, grant_in}
 
@@ -43,7 +44,7 @@ choice_among mid [] = None
 choice_among mid (Err bad ∷ messages) = choice_among mid messages
 choice_among mid (Ok message ∷ messages) =
     if is_final mid (head_of message)
-    then (if is_opened (head_of message) then choice_of (opened_in message) else None)
+    then (if is_opened (head_of message) then choice_of (opened_in Nothing message) else None)
     else choice_among mid messages
 
 -- the choices at the requests that are taken in these events, where these bytes of a frame are held

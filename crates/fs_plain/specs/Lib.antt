@@ -1,4 +1,5 @@
 pub mod Wire
+pub mod Masked
 pub mod Requests
 pub mod Replies
 pub mod World
@@ -23,5 +24,4 @@ pub mod PlainTaken
 pub mod PlainAnswered
 pub mod Divergence
 pub mod Holders
-pub mod Masked
 pub mod Alike

@@ -13,6 +13,7 @@ use Rattle.share_spec.specs.Close.{open_of}
 use Rattle.share_spec.specs.PlainShare.{plain_step, shown}
 use Rattle.share_spec.specs.Sent.{sent_with}
 use Rattle.smb_link.specs.Program.{Wish, Program, Known, Ask, Look, Say, settled}
+use Rattle.fs_plain.specs.Masked.{Untold, untold, told_of}
 use Rattle.fs_plain.specs.Requests.{WireRequest, wire_request}
 use Rattle.fs_plain.specs.World.{us, resolved, refused_before, done_of, choice_now}
 use Rattle.fs_plain.specs.Replay.{Owner, owner_of}
@@ -20,28 +21,29 @@ use Rattle.fs_plain.specs.Taken.{is_next}
 use Rattle.fs_plain.specs.Paired.{Pair, pair_of_real, pair_given, open_given}
 use Rattle.fs_plain.specs.PlainSide.{PlainCall, PlainSide, call_with, with_call, wish_done_on, path_opened, with_given}
 
--- the call and the plain share once its next request was done there, and the pair of opens that came of it
-abbrev pub side_after_wish : PlainSide → PlainCall → Wish → (Rep → Program) → Rep × Share → Rep → PlainSide
-side_after_wish p c wish rest done real = record p {
+-- the call and the plain share once its next request was done there, and the pair of opens that came of it. The call's program sees
+-- what the reply to the real request tells.
+abbrev pub side_after_wish : PlainSide → PlainCall → Wish → (Rep → Program) → Untold → Rep × Share → Rep → PlainSide
+side_after_wish p c wish rest u done real = record p {
   plain = done.1;
   pairs = pair_given (path_opened wish) done.0 real ++ p.pairs;
-  running = with_call (record c { rest = rest (shown done.0); opened = with_given (open_given done.0.body) c.opened }) p.running;
+  running = with_call (record c { rest = rest (shown (told_of u done.0)); opened = with_given (open_given done.0.body) c.opened }) p.running;
 }
 
-abbrev pub side_after_next : PlainSide → PlainCall → Program → Rep → PlainSide
-side_after_next p c (Ask wish rest) real = side_after_wish p c wish rest (wish_done_on p c wish) real
-side_after_next p c (Look rest) real = p
-side_after_next p c (Say answer) real = p
+abbrev pub side_after_next : PlainSide → PlainCall → Untold → Program → Rep → PlainSide
+side_after_next p c u (Ask wish rest) real = side_after_wish p c wish rest u (wish_done_on p c wish) real
+side_after_next p c u (Look rest) real = p
+side_after_next p c u (Say answer) real = p
 
 -- a call's request is taken: the next one of its program is done, by what was known at its mark; one that the CREATE before it refused
 -- does nothing
-abbrev pub side_after_owned : PlainSide → Option PlainCall → Known → Bool → Rep → PlainSide
-side_after_owned p None known refused real = p
-side_after_owned p (Some c) known refused real = if refused then p else side_after_next p c (settled known c.rest) real
+abbrev pub side_after_owned : PlainSide → Option PlainCall → Known → Bool → Untold → Rep → PlainSide
+side_after_owned p None known refused u real = p
+side_after_owned p (Some c) known refused u real = if refused then p else side_after_next p c u (settled known c.rest) real
 
-abbrev pub is_right_of_call : Option PlainCall → Known → Bool → Req → Bool
-is_right_of_call None known refused request = false
-is_right_of_call (Some c) known refused request = refused || is_next (settled known c.rest) request
+abbrev pub is_right_of_call : Option PlainCall → Known → Bool → Untold → Req → Bool
+is_right_of_call None known refused u request = false
+is_right_of_call (Some c) known refused u request = refused || is_next (settled known c.rest) u request
 
 -- the pair of the open that a request without a mark ends, where it is a CLOSE that the share does; one that is related to a refused
 -- CREATE ends nothing, on neither share
@@ -72,21 +74,21 @@ side_after_unowned p (Some n) = if is_at_end p then record p { plain = (plain_st
 abbrev pub is_right_of_nobody : PlainSide → Option ℕ → Bool
 is_right_of_nobody p ended = is_none ended || is_at_end p
 
-abbrev pub side_after_request : Share → PlainSide → Option Owner → Bool → Req → Rep → PlainSide
-side_after_request s p None refused request real =
+abbrev pub side_after_request : Share → PlainSide → Option Owner → Bool → Untold → Req → Rep → PlainSide
+side_after_request s p None refused u request real =
     side_after_unowned p (still_stands (pair_ended s p.pairs refused request) p.plain)
-side_after_request s p (Some o) refused request real = side_after_owned p (call_with o.number p.running) o.known refused real
+side_after_request s p (Some o) refused u request real = side_after_owned p (call_with o.number p.running) o.known refused u real
 
-abbrev pub is_right_on_side : Share → PlainSide → Option Owner → Bool → Req → Bool
-is_right_on_side s p None refused request = is_right_of_nobody p (still_stands (pair_ended s p.pairs refused request) p.plain)
-is_right_on_side s p (Some o) refused request = is_right_of_call (call_with o.number p.running) o.known refused request
+abbrev pub is_right_on_side : Share → PlainSide → Option Owner → Bool → Untold → Req → Bool
+is_right_on_side s p None refused u request = is_right_of_nobody p (still_stands (pair_ended s p.pairs refused request) p.plain)
+is_right_on_side s p (Some o) refused u request = is_right_of_call (call_with o.number p.running) o.known refused u request
 
 -- what a waiting message asks for is taken
 abbrev pub side_after_asked : Share → PlainSide → Sent → Option WireRequest → PlainSide
 side_after_asked s p x None = p
 side_after_asked s p x (Some WireRequest.Aside) = p
 side_after_asked s p x (Some (WireRequest.Share related request)) =
-    side_after_request s p (owner_of x.mid p.told.owners) (is_some (refused_before related x.last_create request))
+    side_after_request s p (owner_of x.mid p.told.owners) (is_some (refused_before related x.last_create request)) (untold x.message)
     (resolved related x.last_create request) (done_of (choice_now s.grants) s related x.last_create request).0
 
 -- a request of the connection itself belongs to no call
@@ -94,7 +96,7 @@ abbrev pub is_right_asked_on_side : Share → PlainSide → Sent → Option Wire
 is_right_asked_on_side s p x None = true
 is_right_asked_on_side s p x (Some WireRequest.Aside) = is_none (owner_of x.mid p.told.owners)
 is_right_asked_on_side s p x (Some (WireRequest.Share related request)) =
-    is_right_on_side s p (owner_of x.mid p.told.owners) (is_some (refused_before related x.last_create request))
+    is_right_on_side s p (owner_of x.mid p.told.owners) (is_some (refused_before related x.last_create request)) (untold x.message)
     (resolved related x.last_create request)
 
 abbrev pub side_after_sent : Share → PlainSide → Option Sent → PlainSide

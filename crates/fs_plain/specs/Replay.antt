@@ -1,11 +1,12 @@
 -- A client without caches at a share of its own, which does what the story's client was asked to do: what it keeps.
 use Rattle.std.specs.Prelude.{ℕ, ◌+◌, ◌==◌, Bool, not, ◌&&◌, ◌||◌, if◌then◌else◌, List, [], ◌∷◌, filter, Option, Some, None}
 use Rattle.smb_base.specs.declared.names.Mid.{Mid}
-use Rattle.smb_le.specs.Numbers.{number_at}
 use Rattle.smb_head.specs.declared.command.TheConstants.{NEGOTIATE}
 use Rattle.smb_head.specs.declared.head.Head.{Head}
 use Rattle.smb_head.specs.declared.head.HeadFault.{HeadFault}
 use Rattle.smb_head.specs.Header.{head_of}
+use Rattle.smb_field.specs.Rows.{if_read}
+use Rattle.smb_body_a.specs.Negotiate.{NegotiateReplyValue, negotiate_reply_of}
 use Rattle.smb_chain.specs.declared.parts.BadNext.{BadNext}
 use Rattle.std.specs.Prelude.{Result, Ok, Err}
 use Rattle.fs_types.specs.declared.call.Call.{Call}
@@ -110,17 +111,16 @@ abbrev pub owner_of : Mid → List Owner → Option Owner
 owner_of mid [] = None
 owner_of mid (o ∷ os) = if o.mid.0 == mid.0 then Some o else owner_of mid os
 
--- what a NEGOTIATE reply of success says of the server (MS-SMB2 2.2.4): capabilities at 88, the greatest sizes at 92, 96 and 100
+-- what a NEGOTIATE reply (MS-SMB2 2.2.4) says of the server
+abbrev pub facts_of : NegotiateReplyValue → ServerFacts
+facts_of x = record { capabilities = x.capabilities; max_transact = x.max_transact; max_read = x.max_read; max_write = x.max_write }
+
+-- what is known of the server once a message was got, which may be such a reply, of success
 abbrev pub facts_with : Result Head HeadFault → List ℕ → ServerFacts → ServerFacts
 facts_with (Err fault) message facts = facts
 facts_with (Ok head) message facts =
     if has head.flags.0 1 && head.command == NEGOTIATE && head.status.0 == 0
-    then record {
-      capabilities = number_at 4 88 message;
-      max_transact = number_at 4 92 message;
-      max_read = number_at 4 96 message;
-      max_write = number_at 4 100 message;
-    }
+    then if_read (negotiate_reply_of message) facts_of facts
     else facts
 
 abbrev pub facts_after : List (Result (List ℕ) BadNext) → ServerFacts → ServerFacts

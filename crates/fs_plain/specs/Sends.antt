@@ -5,7 +5,7 @@ use Rattle.smb_base.specs.declared.names.Fid.{Fid}
 use Rattle.smb_head.specs.Stream.{first_of}
 use Rattle.share_spec.specs.Reply.{fid_of}
 use Rattle.smb_link.specs.Program.{File, Own, Named, Program, Ask, Look, Say}
-use Rattle.fs_plain.specs.Requests.{WireRequest, wire_request}
+use Rattle.fs_plain.specs.Requests.{WireRequest, wire_request, Asks}
 use Rattle.fs_plain.specs.World.{mid_of, messages_of}
 use Rattle.fs_plain.specs.Replay.{Announced}
 use Rattle.fs_plain.specs.Taken.{wish_of}
@@ -16,9 +16,9 @@ abbrev pub fid_of_file : List Fid → File → Fid
 fid_of_file fids (Own n) = get_or fids n (fid_of 0)
 fid_of_file fids Named = fid_of 0
 
--- a message is the next request of what is left of a call
+-- a message is the next request of what is left of a call, and its reply leaves nothing out
 abbrev pub IsWish : Program → List Fid → List ℕ → Type 0
-IsWish (Ask wish rest) fids message = wire_request message ≡ Some (WireRequest.Share false (wish_of (fid_of_file fids) wish))
+IsWish (Ask wish rest) fids message = Asks message (wish_of (fid_of_file fids) wish)
 IsWish (Look rest) fids message = ⊥
 IsWish (Say answer) fids message = ⊥
 

@@ -16,6 +16,7 @@ use Rattle.share_spec.specs.Close.{open_of}
 use Rattle.share_spec.specs.PlainShare.{plain_step, shown}
 use Rattle.share_spec.specs.Sent.{sent_with}
 use Rattle.smb_link.specs.Program.{File, Own, Named, Wish, Open as Opening, Query, Close, Program, Known, Ask, Look, Say, settled}
+use Rattle.fs_plain.specs.Masked.{Untold, untold, told_of, is_whole}
 use Rattle.fs_plain.specs.Requests.{WireRequest, wire_request}
 use Rattle.fs_plain.specs.World.{us, resolved, refused_before, done_of, choice_now}
 use Rattle.fs_plain.specs.Replay.{Running, Owner, Replay, plain_of, opened_number, new_pair, running_with, with_running, owner_of}
@@ -53,35 +54,36 @@ is_wished wish r = false
 abbrev pub with_opened : Rep → List ℕ → List ℕ
 with_opened reply opened = if opened_number reply.body == 0 then opened else opened ++ opened_number reply.body ∷ []
 
--- the call and the plain share once its next request was done there, and the pair of opens that came of it
-abbrev pub after_wish_done : Replay → Running → (Rep → Program) → Rep × Share → Rep → Replay
-after_wish_done r c rest done real = record r {
+-- the call and the plain share once its next request was done there, and the pair of opens that came of it. The call's program sees
+-- what the reply to the real request tells.
+abbrev pub after_wish_done : Replay → Running → (Rep → Program) → Untold → Rep × Share → Rep → Replay
+after_wish_done r c rest u done real = record r {
   plain = done.1;
   pairs = new_pair done.0 real ++ r.pairs;
-  running = with_running (record c { rest = rest (shown done.0); opened = with_opened done.0 c.opened }) r.running;
+  running = with_running (record c { rest = rest (shown (told_of u done.0)); opened = with_opened done.0 c.opened }) r.running;
 }
 
-abbrev pub after_next : Replay → Running → Program → Rep → Replay
-after_next r c (Ask wish rest) real =
-    after_wish_done r c rest (plain_step r.plain us (wish_of (plain_fid c.opened) wish)) real
-after_next r c (Look rest) real = r
-after_next r c (Say answer) real = r
+abbrev pub after_next : Replay → Running → Untold → Program → Rep → Replay
+after_next r c u (Ask wish rest) real =
+    after_wish_done r c rest u (plain_step r.plain us (wish_of (plain_fid c.opened) wish)) real
+after_next r c u (Look rest) real = r
+after_next r c u (Say answer) real = r
 
 -- a call's request is taken: the next one of its program is done; one that the CREATE before it refused does nothing
-abbrev pub after_owned : Replay → Option Running → Known → Bool → Rep → Replay
-after_owned r None known refused real = r
-after_owned r (Some c) known refused real = if refused then r else after_next r c (settled known c.rest) real
+abbrev pub after_owned : Replay → Option Running → Known → Bool → Untold → Rep → Replay
+after_owned r None known refused u real = r
+after_owned r (Some c) known refused u real = if refused then r else after_next r c u (settled known c.rest) real
 
--- the request is the next one of the call's program
-abbrev pub is_next : Program → Req → Bool
-is_next (Ask wish rest) request = is_wished wish request
-is_next (Look rest) request = false
-is_next (Say answer) request = false
+-- the request is the next one of the call's program, and asks to be told as much as the program does: everything
+abbrev pub is_next : Program → Untold → Req → Bool
+is_next (Ask wish rest) u request = is_whole u && is_wished wish request
+is_next (Look rest) u request = false
+is_next (Say answer) u request = false
 
 -- whether it is right that this request of a call is taken: the call runs, and it is its next one
-abbrev pub is_right_owned : Option Running → Known → Bool → Req → Bool
-is_right_owned None known refused request = false
-is_right_owned (Some c) known refused request = refused || is_next (settled known c.rest) request
+abbrev pub is_right_owned : Option Running → Known → Bool → Untold → Req → Bool
+is_right_owned None known refused u request = false
+is_right_owned (Some c) known refused u request = refused || is_next (settled known c.rest) u request
 
 -- the number of the plain open that stands for the real open which a Close without a mark ends; 0 where it ends none, or where the
 -- plain client closed it already
@@ -112,20 +114,20 @@ abbrev pub is_right_unowned : Replay → ℕ → Bool
 is_right_unowned r ended = ended == 0 || is_over r
 
 -- the replay once a request to the share is taken, which has this reply there
-abbrev pub after_request : Share → Replay → Option Owner → Bool → Req → Rep → Replay
-after_request s r None refused request real = after_unowned r (plain_open_ended s r refused request)
-after_request s r (Some o) refused request real = after_owned r (running_with o.number r.running) o.known refused real
+abbrev pub after_request : Share → Replay → Option Owner → Bool → Untold → Req → Rep → Replay
+after_request s r None refused u request real = after_unowned r (plain_open_ended s r refused request)
+after_request s r (Some o) refused u request real = after_owned r (running_with o.number r.running) o.known refused u real
 
-abbrev pub is_right_request : Share → Replay → Option Owner → Bool → Req → Bool
-is_right_request s r None refused request = is_right_unowned r (plain_open_ended s r refused request)
-is_right_request s r (Some o) refused request = is_right_owned (running_with o.number r.running) o.known refused request
+abbrev pub is_right_request : Share → Replay → Option Owner → Bool → Untold → Req → Bool
+is_right_request s r None refused u request = is_right_unowned r (plain_open_ended s r refused request)
+is_right_request s r (Some o) refused u request = is_right_owned (running_with o.number r.running) o.known refused u request
 
 -- the replay once what a waiting message asks for is taken
 abbrev pub after_asked : Share → Replay → Sent → Option WireRequest → Replay
 after_asked s r x None = r
 after_asked s r x (Some WireRequest.Aside) = r
 after_asked s r x (Some (WireRequest.Share related request)) =
-    after_request s r (owner_of x.mid r.owners) (is_some (refused_before related x.last_create request))
+    after_request s r (owner_of x.mid r.owners) (is_some (refused_before related x.last_create request)) (untold x.message)
     (resolved related x.last_create request) (done_of (choice_now s.grants) s related x.last_create request).0
 
 -- a request of the connection itself belongs to no call
@@ -133,7 +135,7 @@ abbrev pub is_right_asked : Share → Replay → Sent → Option WireRequest →
 is_right_asked s r x None = true
 is_right_asked s r x (Some WireRequest.Aside) = not (is_some (owner_of x.mid r.owners))
 is_right_asked s r x (Some (WireRequest.Share related request)) =
-    is_right_request s r (owner_of x.mid r.owners) (is_some (refused_before related x.last_create request))
+    is_right_request s r (owner_of x.mid r.owners) (is_some (refused_before related x.last_create request)) (untold x.message)
     (resolved related x.last_create request)
 
 abbrev pub after_sent_taken : Share → Replay → Option Sent → Replay

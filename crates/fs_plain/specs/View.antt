@@ -14,7 +14,7 @@ use Rattle.share_spec.specs.declared.request.RepBody.TheVariants as body
 use Rattle.share_spec.specs.Reply.{fid_of}
 use Rattle.share_spec.specs.PlainShare.{shown}
 use Rattle.smb_link.specs.Program.{Program, Ask, Look, Say}
-use Rattle.fs_plain.specs.Requests.{WireRequest, wire_request}
+use Rattle.fs_plain.specs.Requests.{WireRequest, wire_request, Asks}
 use Rattle.fs_plain.specs.Replay.{Running, Announced, Owner, owner_of}
 use Rattle.fs_plain.specs.Taken.{plain_fid, wish_of, with_opened}
 
@@ -154,9 +154,9 @@ is_owned_by (Some number) (Some o) = o.number ≡ number
 abbrev pub IsOwned : List Owner → Flight → Type 0
 IsOwned owners f = is_owned_by f.owner (owner_of f.mid owners)
 
--- what is left of a call is this request first, which is the one in flight
+-- what is left of a call is this request first, which is the one in flight and whose reply leaves nothing out
 abbrev pub IsNext : Program → List ℕ → List ℕ → Type 0
-IsNext (Ask wish rest) opened message = wire_request message ≡ Some (WireRequest.Share false (wish_of (plain_fid opened) wish))
+IsNext (Ask wish rest) opened message = Asks message (wish_of (plain_fid opened) wish)
 IsNext (Look rest) opened message = ⊥
 IsNext (Say answer) opened message = ⊥
 

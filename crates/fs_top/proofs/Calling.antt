@@ -15,7 +15,7 @@ use Rattle.smb_names.specs.declared.fault.NameFault.{NameFault}
 use Rattle.smb_names.specs.declared.fault.NameFault.TheVariants as fault
 use Rattle.smb_link.specs.Program.{Own, Wish, Open, Query, Close, Program, Ask, Say, of_refusal, of_errno, number_of_fault}
 use Rattle.smb_link.specs.Stat.{stat_once_open, stat_answer}
-use Rattle.fs_plain.specs.Requests.{WireRequest, wire_request}
+use Rattle.fs_plain.specs.Requests.{WireRequest, Asks}
 use Rattle.fs_plain.specs.Replies.{command_of}
 use Rattle.fs_plain.specs.World.{mid_of}
 use Rattle.fs_plain.specs.View.{Item, Flight, View, rest_after, fids_with, fids_after}
@@ -140,14 +140,14 @@ pub answers_break : (P : Item → Type 0) (number before : ℕ) (mid : Mid) (mes
 answers_break P number before mid message foul old new is next leaves seed begun i p may =
     subst (λ (n : ℕ). Leaves run_options seed (resting (i ∷ []) begun n) foul old new) (sym is) (leaves run_options seed begun i (requests P number mid message begun i next p may))
 
-wish_at : (rest : Program) (wish : Wish) (k : Rep → Program) (fids : List Fid) (message : List ℕ) → rest ≡ Ask wish k → wire_request message ≡ Some (WireRequest.Share false (wish_of (fid_of_file fids) wish)) → IsWish rest fids message
+wish_at : (rest : Program) (wish : Wish) (k : Rep → Program) (fids : List Fid) (message : List ℕ) → rest ≡ Ask wish k → Asks message (wish_of (fid_of_file fids) wish) → IsWish rest fids message
 wish_at rest wish k fids message is asks = subst (λ (p : Program). IsWish p fids message) (sym is) asks
 
 rest_at : (rest : Program) (wish : Wish) (k : Rep → Program) (reply : Rep) → rest ≡ Ask wish k → rest_after (Some reply) rest ≡ k (shown reply)
 rest_at rest wish k reply is = ap (λ (p : Program). rest_after (Some reply) p) is
 
 -- the CREATE
-pub create_next : (wire : List ℕ) (mid : Mid) (message : List ℕ) → wire_request message ≡ Some (WireRequest.Share false (wish_of (fid_of_file []) (Open wire 0x100080 1 0))) → mid_of message ≡ mid
+pub create_next : (wire : List ℕ) (mid : Mid) (message : List ℕ) → Asks message (wish_of (fid_of_file []) (Open wire 0x100080 1 0)) → mid_of message ≡ mid
     → IsNextOf (IsStatThere wire) mid message
 create_next wire mid message asks is = record {
   wish = λ i p. subst (λ (l : List Fid). IsWish i.rest l message) (sym p.1) (wish_at i.rest (Open wire 0x100080 1 0) (stat_once_open run_options) [] message p.0 asks);
@@ -195,10 +195,10 @@ opened_open opened fid action size attributes lease durable i is gives p = (
 )
 
 -- the QUERY_INFO
-pub query_next : (fid : Fid) (mid : Mid) (message : List ℕ) → wire_request message ≡ Some (WireRequest.Share false (req.Query fid)) → mid_of message ≡ mid → IsNextOf (IsStatOpen fid) mid message
+pub query_next : (fid : Fid) (mid : Mid) (message : List ℕ) → Asks message (req.Query fid) → mid_of message ≡ mid → IsNextOf (IsStatOpen fid) mid message
 query_next fid mid message asks is = record {
   wish = λ i p. wish_at i.rest (Query (Own 0)) (λ info. Ask (Close (Own 0)) (λ closed. Say (stat_answer run_options info))) i.fids message p.0
-      (asks ∙ ap (λ (f : Fid). Some (WireRequest.Share false (req.Query f))) (sym p.1.0));
+      (asks.0 ∙ ap (λ (f : Fid). Some (WireRequest.Share false (req.Query f))) (sym p.1.0), asks.1);
   mid_is = is;
 }
 
@@ -210,10 +210,10 @@ query_lands fid mid info i p = (
 )
 
 -- the CLOSE
-pub close_next : (fid : Fid) (info : Rep) (mid : Mid) (message : List ℕ) → wire_request message ≡ Some (WireRequest.Share false (req.Close fid)) → mid_of message ≡ mid → IsNextOf (IsStatKnown fid info) mid message
+pub close_next : (fid : Fid) (info : Rep) (mid : Mid) (message : List ℕ) → Asks message (req.Close fid) → mid_of message ≡ mid → IsNextOf (IsStatKnown fid info) mid message
 close_next fid info mid message asks is = record {
   wish = λ i p. wish_at i.rest (Close (Own 0)) (λ closed. Say (stat_answer run_options (shown info))) i.fids message p.0
-      (asks ∙ ap (λ (f : Fid). Some (WireRequest.Share false (req.Close f))) (sym p.1));
+      (asks.0 ∙ ap (λ (f : Fid). Some (WireRequest.Share false (req.Close f))) (sym p.1), asks.1);
   mid_is = is;
 }
 

@@ -1,6 +1,7 @@
 -- A reply of a mount that was judged to be no fault has its body, and so none of its verdicts is a malformed body.
-use Rattle.std.proofs.Common.{rules, arith, ◌≡◌, ◌∙◌, inl, inr, refl, sym, ap, subst, ℕ, ◌+◌, ◌<◌, ◌≤◌, ◌⊎◌, ◌==◌, ◌&&◌, ◌||◌, Bool, true, false, if◌then◌else◌, List, length, Result, Ok, Err}
-use Rattle.std.specs.Prelude.{nat_le, MatchBool}
+use Rattle.std.proofs.Common.{rules, arith, ◌≡◌, ◌∙◌, inl, inr, refl, sym, ap, subst, ℕ, ◌+◌, ◌<◌, ◌≤◌, ◌⊎◌, ◌==◌, ◌&&◌, ◌||◌, Bool, true, false, if◌then◌else◌, List, length, Some, None, Result, Ok, Err}
+use Rattle.std.specs.Prelude.{nat_le, nat_lt, is_ok, slice_range, MatchBool}
+use Rattle.std.proofs.lemmas.Bool.Decides.{nat_tests}
 use Rattle.smb_le.specs.Numbers.{number_at}
 use Rattle.smb_head.specs.declared.command.TheConstants.{NEGOTIATE, SESSION_SETUP, TREE_CONNECT}
 use Rattle.smb_head.specs.declared.head.Head.{Head}
@@ -24,19 +25,16 @@ use Rattle.smb_mount.specs.declared.fault.MountFault.TheVariants as fault
 use Rattle.smb_mount.specs.Kept as kept
 use Rattle.smb_mount.specs.Replies.{ReadsNegotiate, ReadsSession, ReadsTree, ReadsError, Decides, refusal, Refuses}
 use Rattle.smb_mount.specs.Verdicts.{by_body, greeted, NegotiateEnds, challenged, at_once, SetUpEnds, answered, challenged_again, SessionEnds, joined, TreeEnds}
-use Rattle.fs_plain.specs.Wire.{has_body, lies}
+use Rattle.smb_field.specs.Rows.{lies_behind, part_in, with_part}
+use Rattle.smb_body_a.specs.Negotiate.{negotiate_reply_of}
+use Rattle.smb_body_a.specs.Session.{session_setup_reply_of}
+use Rattle.smb_body_a.specs.Tree.{tree_connect_reply_of}
+use Rattle.smb_body_c.specs.Error.{error_reply_of}
 use Rattle.fs_plain.specs.Replies.{is_error, has_aside_body}
 use Rattle.fs_core.specs.Judged.{HasBodyWith, HasBody}
 use Rattle.fs_top.specs.declared.run_end.End.{End}
 use Rattle.fs_top.specs.RunEndings.{mount_end}
 use Rattle.fs_top.specs.Runs.{foul_end, is_through}
-
-two : (a b : Bool) → (a && b) ≡ true → (a ≡ true) × (b ≡ true)
-two true b is = (refl, is)
-two false b is = absurd (no is)
-  where
-    no : false ≡ true → ⊥
-    no is = search rules
 
 is_number : (a b : ℕ) → (a == b) ≡ true → a ≡ b
 is_number a b is = search rules
@@ -44,18 +42,45 @@ is_number a b is = search rules
 le_is : (a b : ℕ) → nat_le a b ≡ true → a ≤ b
 le_is a b is = search rules
 
--- a body that is there, with its variable part in the message, has no fault
-body_is : (size : ℕ) (part : List ℕ) → has_body size part ≡ true → (end_of_fixed size ≤ length part) × (number_at 2 64 part ≡ size)
-body_is size part is =
-    let t = two (nat_le (end_of_fixed size) (length part)) (number_at 2 64 part == size) is in
-    (le_is (end_of_fixed size) (length part) t.0, is_number (number_at 2 64 part) size t.1)
+not_lt : (a b : ℕ) → nat_lt a b ≡ false → b ≤ a
+not_lt a b is = grind (arith, nat_tests)
 
-no_fault : {X : Type 0} (size : ℕ) (stands : X → Type 0) (strays : Type 0) (part : List ℕ) (b : BodyFault) → has_body size part ≡ true → (strays → ⊥)
+never_true : {X : Type 0} → false ≡ true → X
+never_true is = absurd (no is)
+  where
+    no : false ≡ true → ⊥
+    no is = search rules
+
+-- what is read as a body has its fixed part and its structure size, and its row reads
+read_is : {X : Type 0} (size : ℕ) (part : List ℕ) (read : Result X BodyFault)
+    → is_ok (if nat_lt (length part) (end_of_fixed size) then Err Short else if number_at 2 64 part == size then read else Err Size) ≡ true
+    → (end_of_fixed size ≤ length part) × (number_at 2 64 part ≡ size) × (is_ok read ≡ true)
+read_is size part read is = by (nat_lt (length part) (end_of_fixed size)) (number_at 2 64 part == size) refl refl is
+  where
+    by : (t u : Bool) → nat_lt (length part) (end_of_fixed size) ≡ t → (number_at 2 64 part == size) ≡ u → is_ok (if t then Err Short else if u then read else Err Size) ≡ true
+        → (end_of_fixed size ≤ length part) × (number_at 2 64 part ≡ size) × (is_ok read ≡ true)
+    by true u short same is = never_true is
+    by false true short same is = (not_lt (length part) (end_of_fixed size) short, is_number (number_at 2 64 part) size same, is)
+    by false false short same is = never_true is
+
+-- and its variable part lies in the message
+part_is : {X : Type 0} (behind offset many : ℕ) (part : List ℕ) (rest : List ℕ → Result X BodyFault) → is_ok (with_part Offset (part_in behind offset many part) rest) ≡ true
+    → lies_behind behind offset many part ≡ true
+unfolding part_in
+part_is behind offset many part rest is = by (lies_behind behind offset many part) refl is
+  where
+    by : (t : Bool) → lies_behind behind offset many part ≡ t
+        → is_ok (with_part Offset (if t then Some (slice_range part offset (offset + many)) else None) rest) ≡ true → lies_behind behind offset many part ≡ true
+    by true lies is = lies
+    by false lies is = never_true is
+
+-- a body that is there, with its variable part in the message, has no fault
+no_fault : {X : Type 0} (size : ℕ) (stands : X → Type 0) (strays : Type 0) (part : List ℕ) (b : BodyFault) → end_of_fixed size ≤ length part → number_at 2 64 part ≡ size → (strays → ⊥)
     → Reads size stands ⊥ strays part (Err b) → ⊥
-no_fault size stands strays part Short is never reads = let long = (body_is size part is).0 in absurd (omega (arith, long, reads))
-no_fault size stands strays part Size is never reads = reads.1 (body_is size part is).1
-no_fault size stands strays part Value is never reads = reads.2
-no_fault size stands strays part Offset is never reads = never reads.3
+no_fault size stands strays part Short long is never reads = absurd (omega (arith, long, reads))
+no_fault size stands strays part Size long is never reads = reads.1 is
+no_fault size stands strays part Value long is never reads = reads.2
+no_fault size stands strays part Offset long is never reads = never reads.3
 
 strays_by : (many behind offset fixed long : ℕ) (t u v : Bool) → (many == 0) ≡ t → nat_le fixed offset ≡ u → nat_le (offset + many) long ≡ v → (t || (u && v)) ≡ true → behind ≡ fixed
     → (0 < many) × ((offset < behind) ⊎ (long < offset + many)) → ⊥
@@ -71,33 +96,36 @@ strays_by many behind offset fixed long false false v none low high is same stra
     no : false ≡ true → ⊥
     no is = search rules
 
-not_strays : (size behind offset many : ℕ) (part : List ℕ) → behind ≡ end_of_fixed size → lies size offset many part ≡ true → Strays behind offset many part → ⊥
-not_strays size behind offset many part same is strays =
-    strays_by many behind offset (end_of_fixed size) (length part) (many == 0) (nat_le (end_of_fixed size) offset) (nat_le (offset + many) (length part)) refl refl refl is same strays
+not_strays : (behind offset many : ℕ) (part : List ℕ) → lies_behind behind offset many part ≡ true → Strays behind offset many part → ⊥
+not_strays behind offset many part is strays =
+    strays_by many behind offset behind (length part) (many == 0) (nat_le behind offset) (nat_le (offset + many) (length part)) refl refl refl is refl strays
 
 negotiate_reads : (part : List ℕ) (b : BodyFault) → has_aside_body 0 part ≡ true → ReadsNegotiate part (Err b) → ⊥
+unfolding negotiate_reply_of
 negotiate_reads part b is reads =
-    let t = two (has_body 65 part) (lies 65 (number_at 2 120 part) (number_at 2 122 part) part) is in
-    no_fault 65 (λ (x : NegotiateReply). IsNegotiateReply x part) (Strays 128 (number_at 2 120 part) (number_at 2 122 part) part) part b t.0
-    (not_strays 65 128 (number_at 2 120 part) (number_at 2 122 part) part refl t.1) reads
+    let t = read_is 65 part _ is in
+    no_fault 65 (λ (x : NegotiateReply). IsNegotiateReply x part) (Strays 128 (number_at 2 120 part) (number_at 2 122 part) part) part b t.0 t.1
+    (not_strays 128 (number_at 2 120 part) (number_at 2 122 part) part (part_is 128 (number_at 2 120 part) (number_at 2 122 part) part _ t.2)) reads
 
 session_reads : (part : List ℕ) (b : BodyFault) → has_aside_body 1 part ≡ true → ReadsSession part (Err b) → ⊥
+unfolding session_setup_reply_of
 session_reads part b is reads =
-    let t = two (has_body 9 part) (lies 9 (number_at 2 68 part) (number_at 2 70 part) part) is in
-    no_fault 9 (λ (x : SessionSetupReply). IsSessionSetupReply x part) (Strays 72 (number_at 2 68 part) (number_at 2 70 part) part) part b t.0
-    (not_strays 9 72 (number_at 2 68 part) (number_at 2 70 part) part refl t.1) reads
+    let t = read_is 9 part _ is in
+    no_fault 9 (λ (x : SessionSetupReply). IsSessionSetupReply x part) (Strays 72 (number_at 2 68 part) (number_at 2 70 part) part) part b t.0 t.1
+    (not_strays 72 (number_at 2 68 part) (number_at 2 70 part) part (part_is 72 (number_at 2 68 part) (number_at 2 70 part) part _ t.2)) reads
 
 tree_reads : (part : List ℕ) (b : BodyFault) → has_aside_body 3 part ≡ true → ReadsTree part (Err b) → ⊥
-tree_reads part b is reads = no_fault 16 (λ (x : TreeConnectReply). IsTreeConnectReply x part) ⊥ part b is (λ never. never) reads
-
-error_lies : (many long : ℕ) → nat_le (72 + many) long ≡ true → (0 < many) × ((72 < 72) ⊎ (long < 72 + many)) → ⊥
-error_lies many long is (some, inl before) = absurd (omega (arith, before))
-error_lies many long is (some, inr over) = let to = le_is (72 + many) long is in absurd (omega (arith, to, over))
+unfolding tree_connect_reply_of
+tree_reads part b is reads =
+    let t = read_is 16 part _ is in
+    no_fault 16 (λ (x : TreeConnectReply). IsTreeConnectReply x part) ⊥ part b t.0 t.1 (λ never. never) reads
 
 error_reads : (part : List ℕ) (b : BodyFault) → is_error part ≡ true → ReadsError part (Err b) → ⊥
+unfolding error_reply_of
 error_reads part b is reads =
-    let t = two (has_body 9 part) (nat_le (72 + number_at 4 68 part) (length part)) is in
-    no_fault 9 (λ (x : ErrorReply). IsErrorReply x part) (Strays 72 72 (number_at 4 68 part) part) part b t.0 (error_lies (number_at 4 68 part) (length part) t.1) reads
+    let t = read_is 9 part _ is in
+    no_fault 9 (λ (x : ErrorReply). IsErrorReply x part) (Strays 72 72 (number_at 4 68 part) part) part b t.0 t.1
+    (not_strays 72 72 (number_at 4 68 part) part (part_is 72 72 (number_at 4 68 part) part _ t.2)) reads
 
 -- so what is decided by it is no malformed body
 decides_well : {X A : Type 0} (reads : Result X BodyFault → Type 0) (verdict : X → Result A MountFault) (why : MountFault) (b : BodyFault) → ((c : BodyFault) → reads (Err c) → ⊥)

@@ -11,6 +11,12 @@ use Rattle.smb_head.specs.declared.head.Head.{Head}
 use Rattle.smb_head.specs.declared.head.HeadFault.{HeadFault}
 use Rattle.smb_head.specs.Header.{head_of}
 use Rattle.smb_field.specs.declared.field.BodyFault.{BodyFault}
+use Rattle.smb_field.specs.Rows.{if_read}
+use Rattle.smb_body_b.specs.declared.close.CloseRequest.{CloseRequest}
+use Rattle.smb_body_b.specs.Close.{close_request_of}
+use Rattle.smb_body_b.specs.Create.{CreateRequestValue, create_request_of}
+use Rattle.smb_body_c.specs.declared.info.QueryInfoRequest.{QueryInfoRequest}
+use Rattle.smb_body_c.specs.Info.{query_info_request_of}
 use Rattle.smb_body_b.specs.declared.contexts.ContextSet.{ContextSet}
 use Rattle.smb_body_b.specs.Contexts.{read_of}
 use Rattle.smb_le.specs.Numbers.{number_at}
@@ -20,8 +26,7 @@ use Rattle.share_spec.specs.declared.connection.Sent.{Sent}
 use Rattle.share_spec.specs.declared.request.Req.{Req}
 use Rattle.share_spec.specs.declared.request.Req.TheVariants as req
 use Rattle.share_spec.specs.State.{has}
-use Rattle.fs_plain.specs.Wire.{has_body, bytes_at}
-use Rattle.fs_plain.specs.Requests.{WireRequest, fid_at, create_with, is_create, create_asked, close_asked, is_query, query_asked, is_aside, by_command, asked_with, wire_request}
+use Rattle.fs_plain.specs.Requests.{WireRequest, create_with, create_asked, close_asked, is_query, query_asked, is_aside, by_command, asked_with, wire_request}
 use Rattle.fs_plain.specs.World.{is_creating, refusal_before, resolved, refused_before}
 use Rattle.share_box.specs.declared.serving.Plan.{Plan}
 use Rattle.share_box.specs.declared.serving.Plan.TheVariants as plan
@@ -73,9 +78,9 @@ only_then : (t rel : Bool) (o : Option WireRequest) (r : Req) → Is (if t then 
 only_then true rel o r h = h
 only_then false rel o r h = absurd (cc h)
 
-create_of_contexts : (related rel : Bool) (m : List ℕ) (read : Result ContextSet BodyFault) (r : Req) → Is (create_with related m read) rel r → IsCreate 5 r
-create_of_contexts related rel m (Err fault) r h = absurd (cc h)
-create_of_contexts related rel m (Ok set) r h = record {
+create_of_contexts : (related rel : Bool) (x : CreateRequestValue) (read : Result ContextSet BodyFault) (r : Req) → Is (create_with related x read) rel r → IsCreate 5 r
+create_of_contexts related rel x (Err fault) r h = absurd (cc h)
+create_of_contexts related rel x (Ok set) r h = record {
   by = refl;
   path = _;
   access = _;
@@ -88,17 +93,19 @@ create_of_contexts related rel m (Ok set) r h = record {
   is = taken_is _ related rel _ r (not_first (is_some set.reclaim) rel _ r h);
 }
 
-create_is : (related rel : Bool) (m : List ℕ) (r : Req) → Is (create_asked related m) rel r → IsCreate 5 r
-create_is related rel m r h =
-    create_of_contexts related rel m (read_of false (bytes_at (number_at 4 112 m) (number_at 4 116 m) m)) r (only_then (is_create m) rel _ r h)
+-- what is read of a message asks for it
+create_is : (related rel : Bool) (read : Result CreateRequestValue BodyFault) (r : Req) → Is (if_read read (create_asked related) None) rel r → IsCreate 5 r
+create_is related rel (Err fault) r h = absurd (cc h)
+create_is related rel (Ok x) r h = create_of_contexts related rel x (read_of false x.contexts) r h
 
-close_is : (related rel : Bool) (m : List ℕ) (r : Req) → Is (close_asked related m) rel r → IsClose 6 r
-close_is related rel m r h =
-    record { by = refl; fid = fid_at 72 m; is = taken_is true related rel (req.Close (fid_at 72 m)) r (only_then (has_body 24 m) rel _ r h) }
+close_is : (related rel : Bool) (read : Result CloseRequest BodyFault) (r : Req) → Is (if_read read (close_asked related) None) rel r → IsClose 6 r
+close_is related rel (Err fault) r h = absurd (cc h)
+close_is related rel (Ok x) r h = record { by = refl; fid = x.file_id; is = taken_is true related rel (req.Close x.file_id) r h }
 
-query_is : (related rel : Bool) (m : List ℕ) (r : Req) → Is (query_asked related m) rel r → IsQuery 16 r
-query_is related rel m r h =
-    record { by = refl; fid = fid_at 88 m; is = taken_is true related rel (req.Query (fid_at 88 m)) r (only_then (is_query m) rel _ r h) }
+query_is : (related rel : Bool) (read : Result QueryInfoRequest BodyFault) (r : Req) → Is (if_read read (query_asked related) None) rel r → IsQuery 16 r
+query_is related rel (Err fault) r h = absurd (cc h)
+query_is related rel (Ok x) r h =
+    record { by = refl; fid = x.file_id; is = taken_is true related rel (req.Query x.file_id) r (only_then (is_query x) rel _ r h) }
 
 same : (command n : ℕ) → (command == n) ≡ true → command ≡ n
 same command n h = elim (eqb_tells command n) [
@@ -109,10 +116,10 @@ same command n h = elim (eqb_tells command n) [
 -- a message of a command asks for a request of it
 fits : (command : ℕ) (related rel : Bool) (m : List ℕ) (r : Req) → Is (by_command command related m) rel r → Fits command r
 fits command related rel m r h =
-    by (command == CREATE) (command == CLOSE) (command == QUERY_INFO) (is_aside command m) (create_asked related m) (close_asked related m) (query_asked related m)
-    (λ t is. inl (subst (λ (c : ℕ). IsCreate c r) (sym (same command 5 t)) (create_is related rel m r is)))
-    (λ t is. inr (inl (subst (λ (c : ℕ). IsClose c r) (sym (same command 6 t)) (close_is related rel m r is))))
-    (λ t is. inr (inr (subst (λ (c : ℕ). IsQuery c r) (sym (same command 16 t)) (query_is related rel m r is)))) h
+    by (command == CREATE) (command == CLOSE) (command == QUERY_INFO) (is_aside command m) _ _ _
+    (λ t is. inl (subst (λ (c : ℕ). IsCreate c r) (sym (same command 5 t)) (create_is related rel (create_request_of m) r is)))
+    (λ t is. inr (inl (subst (λ (c : ℕ). IsClose c r) (sym (same command 6 t)) (close_is related rel (close_request_of m) r is))))
+    (λ t is. inr (inr (subst (λ (c : ℕ). IsQuery c r) (sym (same command 16 t)) (query_is related rel (query_info_request_of m) r is)))) h
   where
     by : (a b c d : Bool) (x y z : Option WireRequest) → (a ≡ true → Is x rel r → Fits command r) → (b ≡ true → Is y rel r → Fits command r)
         → (c ≡ true → Is z rel r → Fits command r)

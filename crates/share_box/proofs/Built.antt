@@ -1,14 +1,20 @@
 -- What a message that waits asks for is a request that the share takes.
 use Rattle.std.proofs.Common.{◌≡◌, ◌∙◌, ℕ, ◌==◌, Bool, true, false, if◌then◌else◌, List, refl, subst, Result, Ok, Err, Option, Some, None}
-use Rattle.std.specs.Prelude.{is_some, slice_index}
+use Rattle.std.specs.Prelude.{is_some}
 use Rattle.smb_base.specs.declared.names.Fid.{Fid}
-use Rattle.smb_le.specs.Numbers.{number_at}
 use Rattle.smb_head.specs.declared.command.TheConstants.{CREATE, CLOSE, QUERY_INFO}
 use Rattle.smb_head.specs.declared.head.Head.{Head}
 use Rattle.smb_head.specs.declared.head.HeadFault.{HeadFault}
 use Rattle.smb_head.specs.Header.{head_of}
 use Rattle.smb_field.specs.declared.field.BodyFault.{BodyFault}
+use Rattle.smb_field.specs.Rows.{if_read}
+use Rattle.smb_body_b.specs.declared.close.CloseRequest.{CloseRequest}
 use Rattle.smb_body_b.specs.declared.contexts.ContextSet.{ContextSet}
+use Rattle.smb_body_b.specs.Close.{close_request_of}
+use Rattle.smb_body_b.specs.Contexts.{read_of}
+use Rattle.smb_body_b.specs.Create.{CreateRequestValue, create_request_of}
+use Rattle.smb_body_c.specs.declared.info.QueryInfoRequest.{QueryInfoRequest}
+use Rattle.smb_body_c.specs.Info.{query_info_request_of}
 use Rattle.share_spec.specs.declared.connection.LastCreate.{LastCreate}
 use Rattle.share_spec.specs.declared.connection.LastCreate.TheVariants as last
 use Rattle.share_spec.specs.declared.connection.Sent.{Sent}
@@ -17,8 +23,8 @@ use Rattle.share_spec.specs.declared.request.Req.TheVariants as req
 use Rattle.share_spec.specs.Reply.{map_fid}
 use Rattle.share_spec.specs.State.{has}
 use Rattle.share_spec.specs.Built.{is_built}
-use Rattle.fs_plain.specs.Wire.{has_body, bytes_at, units_in}
-use Rattle.fs_plain.specs.Requests.{WireRequest, fid_at, asked_lease, share_request, create_with, is_create, create_asked, close_asked, is_query, query_asked, is_aside, by_command, asked_with, wire_request}
+use Rattle.fs_plain.specs.Wire.{units_in}
+use Rattle.fs_plain.specs.Requests.{WireRequest, asked_lease, share_request, create_with, create_asked, close_asked, is_query, query_asked, is_aside, by_command, asked_with, wire_request}
 use Rattle.fs_plain.specs.World.{followed, is_creating, resolved, refused_before}
 use Rattle.share_box.specs.declared.serving.Plan.TheVariants as plan
 use Rattle.share_box.specs.Serving.{plan_by, planned, plan_of}
@@ -40,20 +46,32 @@ built_given related r false is = tt
 built_request : (related : Bool) (r : Req) → IsBuiltIn (share_request related r)
 built_request related r = built_given related r (is_built r) refl
 
--- the CREATE that a message with these contexts is
-abbrev create_in : List ℕ → ContextSet → Req
-create_in message set = req.Create (units_in (bytes_at (number_at 2 108 message) (number_at 2 110 message) message)) (number_at 4 88 message)
-    (number_at 4 96 message) (number_at 4 100 message) (number_at 4 104 message) (number_at 4 92 message) (asked_lease (slice_index message 67) set.lease) set.durable
+-- the CREATE that one with these contexts is
+abbrev create_in : CreateRequestValue → ContextSet → Req
+create_in x set =
+    req.Create (units_in x.name) x.access x.share x.disposition x.options x.attributes (asked_lease x.oplock_level set.lease) set.durable
 
-built_create : (related : Bool) (message : List ℕ) (contexts : Result ContextSet BodyFault) → IsBuiltIn (create_with related message contexts)
-built_create related message (Err fault) = tt
-built_create related message (Ok set) = built_if (is_some set.reclaim) None (share_request related (create_in message set)) tt (built_request related (create_in message set))
+built_contexts : (related : Bool) (x : CreateRequestValue) (contexts : Result ContextSet BodyFault) → IsBuiltIn (create_with related x contexts)
+built_contexts related x (Err fault) = tt
+built_contexts related x (Ok set) = built_if (is_some set.reclaim) None (share_request related (create_in x set)) tt (built_request related (create_in x set))
+
+built_create : (related : Bool) (read : Result CreateRequestValue BodyFault) → IsBuiltIn (if_read read (create_asked related) None)
+built_create related (Err fault) = tt
+built_create related (Ok x) = built_contexts related x (read_of false x.contexts)
+
+built_close : (related : Bool) (read : Result CloseRequest BodyFault) → IsBuiltIn (if_read read (close_asked related) None)
+built_close related (Err fault) = tt
+built_close related (Ok x) = built_request related (req.Close x.file_id)
+
+built_query : (related : Bool) (read : Result QueryInfoRequest BodyFault) → IsBuiltIn (if_read read (query_asked related) None)
+built_query related (Err fault) = tt
+built_query related (Ok x) = built_if (is_query x) (share_request related (req.Query x.file_id)) None (built_request related (req.Query x.file_id)) tt
 
 built_command : (command : ℕ) (related : Bool) (message : List ℕ) → IsBuiltIn (by_command command related message)
 built_command command related message =
-    built_if (command == CREATE) (create_asked related message) _ (built_if (is_create message) _ None (built_create related message _) tt)
-    (built_if (command == CLOSE) (close_asked related message) _ (built_if (has_body 24 message) (share_request related (req.Close (fid_at 72 message))) None (built_request related (req.Close (fid_at 72 message))) tt)
-    (built_if (command == QUERY_INFO) (query_asked related message) _ (built_if (is_query message) (share_request related (req.Query (fid_at 88 message))) None (built_request related (req.Query (fid_at 88 message))) tt)
+    built_if (command == CREATE) _ _ (built_create related (create_request_of message))
+    (built_if (command == CLOSE) _ _ (built_close related (close_request_of message))
+    (built_if (command == QUERY_INFO) _ _ (built_query related (query_info_request_of message))
     (built_if (is_aside command message) (Some WireRequest.Aside) None tt tt)))
 
 built_with : (head : Result Head HeadFault) (message : List ℕ) → IsBuiltIn (asked_with head message)

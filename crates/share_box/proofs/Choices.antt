@@ -1,6 +1,7 @@
 -- In an honest story no choice is read ahead that grants a lease or a durable open, since the share grants none.
 use Rattle.std.proofs.Common.{◌≡◌, ◌∙◌, ℕ, zero, suc, ◌==◌, ◌&&◌, Bool, true, false, not, if◌then◌else◌, List, [], ◌∷◌, ◌++◌, length, drop, refl, sym, ap, subst, inl, inr, append_assoc, Result, Ok, Err, Option, Some, None}
-use Rattle.std.specs.Prelude.{filter}
+use Rattle.std.specs.Prelude.{filter, is_ok}
+use Rattle.std.specs.Result.{IsOkAnd}
 use Rattle.std.specs.List.{AllByRecursion}
 use Rattle.std.proofs.lemmas.List.{append-nil}
 use Rattle.std.proofs.lemmas.Bool.Decides.{eqb_tells}
@@ -34,9 +35,20 @@ use Rattle.share_spec.specs.Built.{is_built}
 use Rattle.share_spec.specs.Sent.{sent_with}
 use Rattle.smb_link.specs.declared.event.Event.{Event}
 use Rattle.smb_link.specs.declared.event.Event.TheVariants as event
-use Rattle.fs_plain.specs.Wire.{has_body}
+use Rattle.smb_field.specs.declared.field.BodyFault.{BodyFault}
+use Rattle.smb_field.specs.Rows.{if_read}
+use Rattle.smb_field.proofs.Parts.{read_size, not_read}
+use Rattle.smb_body_a.specs.Empty.{empty_of}
+use Rattle.smb_body_b.specs.declared.contexts.ContextSet.{ContextSet}
+use Rattle.smb_body_b.specs.Create.{CreateReplyValue, create_reply_of}
+use Rattle.smb_body_b.specs.Contexts.{read_of}
+use Rattle.smb_body_c.specs.Error.{error_reply_of}
+use Rattle.smb_body_c.specs.Lease.{lease_break_of}
+use Rattle.share_spec.specs.declared.request.RepBody.TheVariants as body
+use Rattle.fs_plain.specs.Masked.{Untold, Nothing, NumberAndMark, Durability, untold, without_number, told_of, masked}
+use Rattle.fs_plain.proofs.Whole.{tells_durability, asked_tells}
 use Rattle.fs_plain.specs.Requests.{WireRequest, wire_request}
-use Rattle.fs_plain.specs.Replies.{Pays, command_of, answers, reply_of, reply_by_status, reply_with, reply_in, opened_in, is_interim, interim_with, is_interim_of, is_aside_by_status, aside_with, is_aside_reply, notice_with, IsNotice}
+use Rattle.fs_plain.specs.Replies.{Pays, command_of, answers, reply_of, reply_by_status, reply_with, reply_in, opened_in, is_interim, interim_with, is_interim_of, is_aside_by_status, aside_with, is_aside_reply, notice_with, IsNotice, is_error, IsNoticeBody, opened_with}
 use Rattle.fs_plain.specs.World.{us, grant_in, requests_in, messages_in, messages_got, resolved, refused_before, unless_refused_before, choice_now, after_sent, after_done, after_taking, after_took_of, after_pend_of, notices, breakable, happens}
 use Rattle.fs_plain.specs.Ahead.{still_to_come, is_final, choice_of, is_opened, choice_among, ahead}
 use Rattle.fs_plain.specs.Honest.{ArePaid, HonestFrom, IsHonest}
@@ -48,7 +60,7 @@ use Rattle.share_box.proofs.Built.{IsBuiltIn, asked_built, resolved_built}
 
 -- the choice that a message tells, if it is a final reply
 abbrev told_by : Result Head HeadFault → List ℕ → Option Grant
-told_by head message = if is_opened head then choice_of (opened_in message) else None
+told_by head message = if is_opened head then choice_of (opened_in Nothing message) else None
 
 -- messages that grant nothing
 abbrev Grants : Result (List ℕ) BadNext → Type 0
@@ -58,7 +70,7 @@ Grants (Ok message) = IsBare (told_by (head_of message) message)
 -- owed messages that grant nothing
 abbrev GrantsNo : Owed → Type 0
 GrantsNo (owed.Interim mid request) = Unit {0}
-GrantsNo (owed.Reply mid request reply) = IsBare (grant_in reply.body)
+GrantsNo (owed.Reply mid request reply) = IsBare (grant_in reply.body) × (tells_durability (untold request) ≡ true)
 GrantsNo (owed.Aside mid request) = Unit {0}
 GrantsNo (owed.Notice key state wanted) = Unit {0}
 
@@ -79,25 +91,36 @@ is_number a b is = elim (eqb_tells a b) [
 other_number : (a b c : ℕ) → a ≡ b → (b == c) ≡ false → (a == c) ≡ false
 other_number a b c same other = ap (λ (n : ℕ). n == c) same ∙ other
 
-none_if : (a b c : Bool) (x : Option RepBody) → b ≡ false → (if a && b && c then x else None) ≡ None
-none_if true true c x is = absurd (cc is)
-none_if true false c x is = refl
-none_if false b c x is = refl
-
 -- a body of another size is not that of a CREATE reply
-not_opened : (size : ℕ) (message : List ℕ) → has_body size message ≡ true → (size == 89) ≡ false → opened_in message ≡ None
-not_opened size message has other =
-    none_if _ _ _ _ (other_number (number_at 2 64 message) size 89 (is_number (number_at 2 64 message) size (and_right _ _ has)) other)
+not_opened : (size : ℕ) (message : List ℕ) → number_at 2 64 message ≡ size → (size == 89) ≡ false → opened_in Nothing message ≡ None
+unfolding create_reply_of
+not_opened size message is other = not_read 89 (number_at 2 64 message) _ _ _ _ (other_number (number_at 2 64 message) size 89 is other)
+
+error_size : (message : List ℕ) → is_error message ≡ true → number_at 2 64 message ≡ 9
+unfolding error_reply_of
+error_size message is = read_size 9 (number_at 2 64 message) _ _ is
+
+empty_size : (message : List ℕ) → is_ok (empty_of message) ≡ true → number_at 2 64 message ≡ 4
+unfolding empty_of
+empty_size message is = read_size 4 (number_at 2 64 message) _ _ is
+
+ok_and : {X E : Type 0} (P : X → Type 0) (r : Result X E) → IsOkAnd r P → is_ok r ≡ true
+ok_and P (Ok x) is = refl
+ok_and P (Err fault) is = absurd is
+
+break_size : (message : List ℕ) → is_ok (lease_break_of message) ≡ true → number_at 2 64 message ≡ 44
+unfolding lease_break_of
+break_size message is = read_size 44 (number_at 2 64 message) _ _ is
 
 bare_if : (a b : Bool) (choice : Option Grant) → (a ≡ true → b ≡ true → IsBare choice) → IsBare (if a && b then choice else None)
 bare_if true true choice is = is refl refl
 bare_if true false choice is = refl
 bare_if false b choice is = refl
 
-none_told : (head : Result Head HeadFault) (message : List ℕ) → opened_in message ≡ None → IsBare (told_by head message)
+none_told : (head : Result Head HeadFault) (message : List ℕ) → opened_in Nothing message ≡ None → IsBare (told_by head message)
 none_told (Err fault) message none = refl
 none_told (Ok head) message none =
-    bare_if (head.command == CREATE) (head.status.0 == 0) (choice_of (opened_in message)) (λ c s. subst (λ (o : Option RepBody). IsBare (choice_of o)) (sym none) refl)
+    bare_if (head.command == CREATE) (head.status.0 == 0) (choice_of (opened_in Nothing message)) (λ c s. subst (λ (o : Option RepBody). IsBare (choice_of o)) (sym none) refl)
 
 if_some : (t : Bool) (x : Option Rep) (reply : Rep) → (if t then x else None) ≡ Some reply → (t ≡ true) × (x ≡ Some reply)
 if_some true x reply is = (refl, is)
@@ -107,46 +130,73 @@ choice_told : (o : Option RepBody) (reply : Rep) → reply_of 0 o ≡ Some reply
 choice_told None reply is = absurd (cc is)
 choice_told (Some b) reply is = ap grant_in cc
 
+-- a reply that tells of durability tells what it grants, whatever else it leaves out
+same_opened : (r : Result CreateReplyValue BodyFault)
+    → if_read r (λ (x : CreateReplyValue). opened_with NumberAndMark x (read_of true x.contexts)) None ≡ if_read r (λ (x : CreateReplyValue). opened_with Nothing x (read_of true x.contexts)) None
+same_opened (Err fault) = refl
+same_opened (Ok x) = by (read_of true x.contexts)
+  where
+    by : (c : Result ContextSet BodyFault) → opened_with NumberAndMark x c ≡ opened_with Nothing x c
+    by (Ok set) = refl
+    by (Err fault) = refl
+
+same_grant : (b : RepBody) → grant_in (without_number b) ≡ grant_in b
+same_grant body.None = refl
+same_grant (body.Opened fid action size attributes lease durable) = refl
+same_grant (body.Bytes bytes) = refl
+same_grant (body.Count count) = refl
+same_grant (body.Info dir size read_only links pending number) = refl
+same_grant (body.Names names) = refl
+same_grant (body.Room total free) = refl
+
+opened_bare : (u : Untold) (message : List ℕ) (reply : Rep) → tells_durability u ≡ true → IsBare (grant_in reply.body)
+    → reply_by_status u 0 CREATE message ≡ Some (told_of u reply) → IsBare (choice_of (opened_in Nothing message))
+opened_bare Nothing message reply tells bare said = subst IsBare (sym (choice_told (opened_in Nothing message) reply said)) bare
+opened_bare NumberAndMark message reply tells bare said =
+    subst IsBare (sym (choice_told (opened_in Nothing message) (told_of NumberAndMark reply) (ap (reply_of 0) (sym (same_opened (create_reply_of message))) ∙ said) ∙ same_grant reply.body)) bare
+opened_bare Durability message reply tells bare said = absurd (cc tells)
+
 -- a reply that is owed tells what it grants
-reply_told : (head : Result Head HeadFault) (mid : Mid) (request message : List ℕ) (reply : Rep) → IsBare (grant_in reply.body)
-    → reply_with head mid request message ≡ Some reply → IsBare (told_by head message)
-reply_told (Err fault) mid request message reply bare is = refl
-reply_told (Ok head) mid request message reply bare is =
-    let found : ((answers mid request head && not (is_interim head)) ≡ true) × (reply_by_status head.status.0 (command_of request) message ≡ Some reply) =
-    if_some (answers mid request head && not (is_interim head)) (reply_by_status head.status.0 (command_of request) message) reply is in
+reply_told : (head : Result Head HeadFault) (mid : Mid) (request message : List ℕ) (reply : Rep) → IsBare (grant_in reply.body) → tells_durability (untold request) ≡ true
+    → reply_with head mid request message ≡ Some (masked request reply) → IsBare (told_by head message)
+reply_told (Err fault) mid request message reply bare tells is = refl
+reply_told (Ok head) mid request message reply bare tells is =
+    let u : Untold = untold request in
+    let found : ((answers mid request head && not (is_interim head)) ≡ true) × (reply_by_status u head.status.0 (command_of request) message ≡ Some (told_of u reply)) =
+    if_some (answers mid request head && not (is_interim head)) (reply_by_status u head.status.0 (command_of request) message) (told_of u reply) is in
     let same : head.command ≡ command_of request = is_number head.command (command_of request) (and_right _ _ (and_left _ _ found.0)) in
-    bare_if (head.command == CREATE) (head.status.0 == 0) (choice_of (opened_in message)) (λ c s.
-    let body : reply_by_status 0 CREATE message ≡ Some reply =
-    subst (λ (n : ℕ). reply_by_status 0 n message ≡ Some reply) (sym same ∙ is_number head.command 5 c)
-    (subst (λ (n : ℕ). reply_by_status n (command_of request) message ≡ Some reply) (is_number head.status.0 0 s) found.1) in
-    subst IsBare (sym (choice_told (opened_in message) reply body)) bare)
+    bare_if (head.command == CREATE) (head.status.0 == 0) (choice_of (opened_in Nothing message)) (λ c s.
+    let said : reply_by_status u 0 CREATE message ≡ Some (told_of u reply) =
+    subst (λ (n : ℕ). reply_by_status u 0 n message ≡ Some (told_of u reply)) (sym same ∙ is_number head.command 5 c)
+    (subst (λ (n : ℕ). reply_by_status u n (command_of request) message ≡ Some (told_of u reply)) (is_number head.status.0 0 s) found.1) in
+    opened_bare u message reply tells bare said)
 
 interim_told : (head : Result Head HeadFault) (mid : Mid) (request message : List ℕ) → interim_with head mid request message ≡ true → IsBare (told_by head message)
 interim_told (Err fault) mid request message is = refl
 interim_told (Ok head) mid request message is =
-    none_told (Ok head) message (not_opened 9 message (and_left _ _ (and_right _ _ is)) refl)
+    none_told (Ok head) message (not_opened 9 message (error_size message (and_right (answers mid request head && is_interim head) _ is)) refl)
 
 aside_told : (head : Result Head HeadFault) (mid : Mid) (request message : List ℕ) → aside_with head mid request message ≡ true → IsBare (told_by head message)
 aside_told (Err fault) mid request message is = refl
 aside_told (Ok head) mid request message is =
     let same : head.command ≡ command_of request =
     is_number head.command (command_of request) (and_right _ _ (and_left (answers mid request head) _ (and_left (answers mid request head && not (is_interim head)) _ is))) in
-    bare_if (head.command == CREATE) (head.status.0 == 0) (choice_of (opened_in message)) (λ c s.
+    bare_if (head.command == CREATE) (head.status.0 == 0) (choice_of (opened_in Nothing message)) (λ c s.
     let body : is_aside_by_status 0 5 message ≡ true =
     subst (λ (n : ℕ). is_aside_by_status 0 n message ≡ true) (sym same ∙ is_number head.command 5 c)
     (subst (λ (n : ℕ). is_aside_by_status n (command_of request) message ≡ true) (is_number head.status.0 0 s)
     (and_right (answers mid request head && not (is_interim head)) _ is)) in
-    subst (λ (o : Option RepBody). IsBare (choice_of o)) (sym (not_opened 4 message body refl)) refl)
+    subst (λ (o : Option RepBody). IsBare (choice_of o)) (sym (not_opened 4 message (empty_size message body) refl)) refl)
 
 notice_told : (head : Result Head HeadFault) (key : Key) (state : ℕ) (wanted : Bool) (message : List ℕ) → notice_with head key state wanted message → IsBare (told_by head message)
 notice_told (Err fault) key state wanted message is = refl
-notice_told (Ok head) key state wanted message is = none_told (Ok head) message (not_opened 44 message is.4 refl)
+notice_told (Ok head) key state wanted message is = none_told (Ok head) message (not_opened 44 message (break_size message (ok_and (IsNoticeBody key state wanted) (lease_break_of message) is.4)) refl)
 
 -- a message that pays what grants nothing grants nothing
 paid_grants : (o : Owed) (message : List ℕ) → GrantsNo o → Pays o message → Grants (Ok message)
 unfolding is_interim_of reply_in is_aside_reply IsNotice
 paid_grants (owed.Interim mid request) message none pays = interim_told (head_of message) mid request message pays
-paid_grants (owed.Reply mid request reply) message none pays = reply_told (head_of message) mid request message reply none pays
+paid_grants (owed.Reply mid request reply) message none pays = reply_told (head_of message) mid request message reply none.0 none.1 pays
 paid_grants (owed.Aside mid request) message none pays = aside_told (head_of message) mid request message pays
 paid_grants (owed.Notice key state wanted) message none pays = notice_told (head_of message) key state wanted message pays
 
@@ -180,7 +230,7 @@ choice_bare : (mid : Mid) (messages : List (Result (List ℕ) BadNext)) → AllB
 choice_bare mid [] all = refl
 choice_bare mid (Err bad ∷ messages) all = choice_bare mid messages all.1
 choice_bare mid (Ok message ∷ messages) all =
-    choice_if (is_final mid (head_of message)) (if is_opened (head_of message) then choice_of (opened_in message) else None) (choice_among mid messages) all.0 (choice_bare mid messages all.1)
+    choice_if (is_final mid (head_of message)) (if is_opened (head_of message) then choice_of (opened_in Nothing message) else None) (choice_among mid messages) all.0 (choice_bare mid messages all.1)
 
 -- what leaves the bytes that are held, and adds nothing that grants to what is owed
 record Passes (s after : Share) : Type 0 where
@@ -201,24 +251,24 @@ sent_passes : (s : Share) (requests : List Sent) (t : Bool) → Passes s (if t t
 sent_passes s requests true = same_passes s _ refl refl
 sent_passes s requests false = same_passes s _ refl refl
 
-done_passes : (s : Share) (x : Sent) (r : Req) (refusal : Option ℕ) (r' : Req) (choice : Option Grant) → is_built r' ≡ true
+done_passes : (s : Share) (x : Sent) (r : Req) (refusal : Option ℕ) (r' : Req) (choice : Option Grant) → is_built r' ≡ true → tells_durability (untold x.message) ≡ true
     → Passes s (after_done x r (unless_refused_before refusal s (step_of choice s us r')))
-done_passes s x r None r' choice built =
+done_passes s x r None r' choice built tells =
     let leaves : connection (step_of choice s us r').1 ≡ connection s = step_connection choice s us r' in
     one_more_owed s _ (owed.Reply x.mid x.message (step_of choice s us r').0) (ap (λ (c : Connection). c.held) leaves)
-    (ap (λ (c : Connection). c.owed ++ owed.Reply x.mid x.message (step_of choice s us r').0 ∷ []) leaves) (step_grants choice s us r' built)
-done_passes s x r (Some status) r' choice built = one_more_owed s _ (owed.Reply x.mid x.message (of_status status)) refl refl refl
+    (ap (λ (c : Connection). c.owed ++ owed.Reply x.mid x.message (step_of choice s us r').0 ∷ []) leaves) (step_grants choice s us r' built, tells)
+done_passes s x r (Some status) r' choice built tells = one_more_owed s _ (owed.Reply x.mid x.message (of_status status)) refl refl (refl, tells)
 
-taking_passes : (s : Share) (x : Sent) (a : Option WireRequest) → IsBuiltIn a → Passes s (after_taking a x s)
-taking_passes s x None built = same_passes s s refl refl
-taking_passes s x (Some WireRequest.Aside) built = one_more_owed s _ (owed.Aside x.mid x.message) refl refl tt
-taking_passes s x (Some (WireRequest.Share related r)) built =
+taking_passes : (s : Share) (x : Sent) (a : Option WireRequest) → IsBuiltIn a → wire_request x.message ≡ a → Passes s (after_taking a x s)
+taking_passes s x None built is = same_passes s s refl refl
+taking_passes s x (Some WireRequest.Aside) built is = one_more_owed s _ (owed.Aside x.mid x.message) refl refl tt
+taking_passes s x (Some (WireRequest.Share related r)) built is =
     done_passes s x r (refused_before related x.last_create r) (resolved related x.last_create r) (choice_now s.grants)
-    (resolved_built related x.last_create r built)
+    (resolved_built related x.last_create r built) (asked_tells x.message related r is)
 
 took_passes : (s : Share) (found : Option Sent) → Passes s (after_took_of found s)
 took_passes s None = same_passes s s refl refl
-took_passes s (Some x) = taking_passes s x (wire_request x.message) (asked_built x.message)
+took_passes s (Some x) = taking_passes s x (wire_request x.message) (asked_built x.message) refl
 
 pend_passes : (s : Share) (mid : Mid) (found : Option Sent) → Passes s (after_pend_of found mid s)
 pend_passes s mid None = same_passes s s refl refl

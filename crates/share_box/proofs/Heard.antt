@@ -11,6 +11,7 @@ use Rattle.smb_head.specs.declared.head.HeadFault.TheVariants.{Short, Magic, Siz
 use Rattle.smb_head.specs.Header.{head_of, head_at}
 use Rattle.share_spec.specs.State.{has}
 use Rattle.fs_plain.specs.Replies.{command_of, answers, is_interim, is_error, reply_by_status, reply_with, reply_in, interim_with, is_interim_of, is_aside_by_status, aside_with, is_aside_reply}
+use Rattle.fs_plain.specs.Masked.{untold}
 use Rattle.fs_plain.specs.World.{mid_of}
 use Rattle.share_box.specs.declared.bodies.Said.{Said}
 use Rattle.share_box.specs.Bodies.{status_of}
@@ -73,13 +74,15 @@ tested a i x y p q = rw (p, q) refl
 
 -- a message with this header is the reply that its status and its body say
 pub heard : (mid : Mid) (request m : List ℕ) (head : Head) (credits : ℕ) (pended : Bool) (what : Said) → head_of request ≡ Ok head → mid ≡ mid_of request
-    → IsFinal what → head_of m ≡ Ok (reply_head head credits pended what) → reply_in mid request m ≡ reply_by_status (status_of what).0 head.command m
+    → IsFinal what → head_of m ≡ Ok (reply_head head credits pended what)
+    → reply_in mid request m ≡ reply_by_status (untold request) (status_of what).0 head.command m
 unfolding reply_in
 heard mid request m head credits pended what is own final read =
     ap (λ (r : Result Head HeadFault). reply_with r mid request m) read
     ∙ tested (answers mid request (reply_head head credits pended what)) (is_interim (reply_head head credits pended what))
-    (reply_by_status (status_of what).0 (command_of request) m) None (answers_it mid request head credits pended what is own) (no_interim head credits pended what final)
-    ∙ ap (λ (c : ℕ). reply_by_status (status_of what).0 c m) (sym (command_found request head is))
+    (reply_by_status (untold request) (status_of what).0 (command_of request) m) None (answers_it mid request head credits pended what is own)
+    (no_interim head credits pended what final)
+    ∙ ap (λ (c : ℕ). reply_by_status (untold request) (status_of what).0 c m) (sym (command_found request head is))
 
 -- and to a request of the connection itself
 pub heard_aside : (mid : Mid) (request m : List ℕ) (head : Head) (credits : ℕ) (pended : Bool) (what : Said) → head_of request ≡ Ok head → mid ≡ mid_of request

@@ -11,9 +11,7 @@ pub mod Steps
 pub mod Passing
 pub mod Going
 pub mod Connecting
-pub mod Wire
 pub mod FrameParts
-pub mod Lent
 pub mod Reading
 pub mod Shapes
 pub mod Asking

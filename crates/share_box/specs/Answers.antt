@@ -1,5 +1,5 @@
 -- Replies, each as a frame of its own.
-use Rattle.std.specs.Prelude.{ℕ, ◌==◌, Bool, true, ◌&&◌, nat_le, if◌then◌else◌, List, [], ◌∷◌, length, take, bytes_eq, codes, Result, Ok, Err}
+use Rattle.std.specs.Prelude.{ℕ, ◌==◌, Bool, true, false, ◌&&◌, nat_le, if◌then◌else◌, List, [], ◌∷◌, length, take, bytes_eq, codes, Result, Ok, Err}
 use Rattle.smb_le.specs.Numbers.{number_at}
 use Rattle.smb_le.specs.declared.flags.HeadFlags.{HeadFlags}
 use Rattle.smb_head.specs.declared.command.TheConstants.{NEGOTIATE, SESSION_SETUP, TREE_CONNECT}
@@ -13,23 +13,23 @@ use Rattle.smb_chain.specs.Chain.{chain, message as message_of}
 use Rattle.share_spec.specs.Reply.{of_status}
 use Rattle.share_box.specs.declared.bodies.Said.{Said}
 use Rattle.share_box.specs.declared.bodies.Said.TheVariants as said
-use Rattle.fs_plain.specs.Wire.{has_body, lies, bytes_at}
-use Rattle.share_box.specs.Bodies.{body_of, status_of}
+use Rattle.smb_field.specs.Rows.{if_read}
+use Rattle.smb_body_a.specs.Session.{session_setup_request_of}
+use Rattle.fs_plain.specs.Masked.{untold}
+use Rattle.share_box.specs.Bodies.{in_part, body_of, status_of}
 
 -- a token is NTLM's message of type 1 (MS-NLMP 2.2.1.1)
 abbrev pub is_first_message : List ℕ → Bool
 is_first_message token =
     nat_le 12 (length token) && bytes_eq (take 8 token) (codes "NTLMSSP\0") && number_at 4 8 token == 1
 
--- the token of a SESSION_SETUP request
-abbrev pub token_in : List ℕ → List ℕ
-token_in message = bytes_at (number_at 2 76 message) (number_at 2 78 message) message
+-- a SESSION_SETUP request has such a token
+abbrev pub begins_session : List ℕ → Bool
+begins_session message = if_read (session_setup_request_of message) (λ x. is_first_message x.buffer) false
 
 -- the first message of a session is answered by a challenge
 unfoldable pub said_session : List ℕ → Said
-said_session message =
-    if has_body 25 message && lies 25 (number_at 2 76 message) (number_at 2 78 message) message && is_first_message (token_in message)
-    then said.Challenge else said.Session
+said_session message = if begins_session message then said.Challenge else said.Session
 
 -- what the reply says to a request that changes nothing on the share
 abbrev pub said_aside : ℕ → List ℕ → Said
@@ -73,13 +73,13 @@ reply_head head credits pended what = record {
   session = session_of head;
 }
 
-abbrev pub reply_under : Result Head HeadFault → ℕ → Bool → Said → List ℕ
-reply_under (Err fault) credits pended what = []
-reply_under (Ok head) credits pended what = frame (chain (message_of (reply_head head credits pended what) (body_of what) ∷ []))
+abbrev pub reply_under : Result Head HeadFault → Bool → ℕ → Bool → Said → List ℕ
+reply_under (Err fault) part credits pended what = []
+reply_under (Ok head) part credits pended what = frame (chain (message_of (reply_head head credits pended what) (body_of part what) ∷ []))
 
--- the frame of the reply to a message, which has a header and may have been put off
+-- the frame of the reply to a message, which has a header and may have been put off: it tells what the message asked to be told
 unfoldable pub reply_of : ℕ → Bool → List ℕ → Said → List ℕ
-reply_of credits pended message what = reply_under (head_of message) credits pended what
+reply_of credits pended message what = reply_under (head_of message) (in_part (untold message)) credits pended what
 
 -- that a request was put off: STATUS_PENDING
 abbrev pub pending : Said

@@ -1,5 +1,5 @@
 -- The bodies of replies, field by field as the tables of MS-SMB2 2.2 and MS-FSCC 2.4 list them.
-use Rattle.std.specs.Prelude.{ℕ, ◌==◌, Bool, if◌then◌else◌, List, [], ◌∷◌, replicate}
+use Rattle.std.specs.Prelude.{ℕ, ◌==◌, Bool, true, false, if◌then◌else◌, List, [], ◌∷◌, replicate}
 use Rattle.smb_base.specs.declared.names.Fid.{Fid}
 use Rattle.smb_base.specs.declared.names.Status.{Status}
 use Rattle.smb_field.specs.declared.field.Field.{Field}
@@ -10,6 +10,7 @@ use Rattle.share_spec.specs.declared.request.Rep.{Rep}
 use Rattle.share_spec.specs.declared.request.RepBody.{RepBody}
 use Rattle.share_spec.specs.declared.request.RepBody.TheVariants as body
 use Rattle.share_spec.specs.Reply.{attributes_of}
+use Rattle.fs_plain.specs.Masked.{Untold}
 use Rattle.share_box.specs.declared.bodies.Said.{Said}
 use Rattle.share_box.specs.declared.bodies.Said.TheVariants.{Negotiated, Challenge, Session, Tree, Done, Share}
 
@@ -63,29 +64,48 @@ all dir size read_only links pending number =
     U64 0 ∷ U64 0 ∷ U64 0 ∷ U64 0 ∷ U32 (attributes_of dir read_only) ∷ Any32 0 ∷ U64 size ∷ U64 size ∷ U32 links
     ∷ U8 (number_of pending) ∷ U8 (number_of dir) ∷ Any16 0 ∷ U64 number ∷ U32 0 ∷ U32 0 ∷ U64 0 ∷ U32 0 ∷ U32 0 ∷ Any32 0 ∷ []
 
+-- FileStandardInformation: the size twice, the links, whether the entry is to go, and whether it is a directory
+abbrev pub standard : Bool → ℕ → ℕ → Bool → List Field
+standard dir size links pending =
+    U64 size ∷ U64 size ∷ U32 links ∷ U8 (number_of pending) ∷ U8 (number_of dir) ∷ Any16 0 ∷ []
+
+-- what a reply leaves out is what FileStandardInformation has not
+abbrev pub in_part : Untold → Bool
+in_part Untold.NumberAndMark = true
+in_part u = false
+
+-- the information that a query is answered with: FileStandardInformation, or all that is known; and how many bytes it has
+abbrev pub information : Bool → RepBody → List Field
+information true (body.Info dir size read_only links pending number) = standard dir size links pending
+information false (body.Info dir size read_only links pending number) = all dir size read_only links pending number
+information part b = []
+
+abbrev pub information_size : Bool → ℕ
+information_size part = if part then 24 else 100
+
 -- QUERY_INFO: a buffer of so many bytes
 abbrev pub buffer : ℕ → List Field
 buffer size = Offset16 ∷ U32 size ∷ []
 
--- the body of what was done on the share
-abbrev pub body_done : RepBody → List ℕ
-body_done (body.Opened fid action size attributes lease durable) = spelling 89 (opened fid action size attributes) []
-body_done (body.Info dir size read_only links pending number) =
-    spelling 9 (buffer 100) (spelling_in (all dir size read_only links pending number) [])
-body_done b = spelling 60 closed []
+-- the body of what was done on the share, told in part or as a whole
+abbrev pub body_done : Bool → RepBody → List ℕ
+body_done part (body.Opened fid action size attributes lease durable) = spelling 89 (opened fid action size attributes) []
+body_done part (body.Info dir size read_only links pending number) =
+    spelling 9 (buffer (information_size part)) (spelling_in (information part (body.Info dir size read_only links pending number)) [])
+body_done part b = spelling 60 closed []
 
 -- the body of a reply of the share
-abbrev pub body_of_rep : Rep → List ℕ
-body_of_rep rep = if rep.status.0 == 0 then body_done rep.body else spelling 9 error []
+abbrev pub body_of_rep : Bool → Rep → List ℕ
+body_of_rep part rep = if rep.status.0 == 0 then body_done part rep.body else spelling 9 error []
 
 -- the body of a reply
-unfoldable pub body_of : Said → List ℕ
-body_of Negotiated = spelling 65 negotiated []
-body_of Challenge = spelling 9 (session 0 56) challenge
-body_of Session = spelling 9 (session 2 0) []
-body_of Tree = spelling 16 tree []
-body_of Done = spelling 4 empty []
-body_of (Share rep) = body_of_rep rep
+unfoldable pub body_of : Bool → Said → List ℕ
+body_of part Negotiated = spelling 65 negotiated []
+body_of part Challenge = spelling 9 (session 0 56) challenge
+body_of part Session = spelling 9 (session 2 0) []
+body_of part Tree = spelling 16 tree []
+body_of part Done = spelling 4 empty []
+body_of part (Share rep) = body_of_rep part rep
 
 -- its status: a challenge asks for one more message
 abbrev pub status_of : Said → Status

@@ -68,17 +68,17 @@ GrantsNothing (body.Opened fid action size attributes lease durable) = (lease �
 GrantsNothing other = Unit {0}
 
 -- bytes are the frame of one message with this header, which is read again, and with the body of what it says, which is read again
-pub record IsReply (head : Head) (what : Said) (bytes : List ℕ) : Type 0 where
-  pub framed : bytes ≡ frame (header head ++ body_of what)
-  pub alone : parts_of (header head ++ body_of what) ≡ Ok (header head ++ body_of what) ∷ []
-  pub small : length (header head ++ body_of what) ≤ MAX_FRAME
-  pub read : head_of (header head ++ body_of what) ≡ Ok head
-  pub again : IsBodyAgain what
+pub record IsReply (head : Head) (part : Bool) (what : Said) (bytes : List ℕ) : Type 0 where
+  pub framed : bytes ≡ frame (header head ++ body_of part what)
+  pub alone : parts_of (header head ++ body_of part what) ≡ Ok (header head ++ body_of part what) ∷ []
+  pub small : length (header head ++ body_of part what) ≤ MAX_FRAME
+  pub read : head_of (header head ++ body_of part what) ≡ Ok head
+  pub again : IsBodyAgain part what
 
 -- the reply to a message, which has a header
-abbrev pub IsReplyTo : Result Head HeadFault → ℕ → Bool → Said → List ℕ → Type 0
-IsReplyTo (Err fault) credits pended what bytes = Unit {0}
-IsReplyTo (Ok head) credits pended what bytes = IsReply (reply_head head credits pended what) what bytes
+abbrev pub IsReplyTo : Result Head HeadFault → Bool → ℕ → Bool → Said → List ℕ → Type 0
+IsReplyTo (Err fault) part credits pended what bytes = Unit {0}
+IsReplyTo (Ok head) part credits pended what bytes = IsReply (reply_head head credits pended what) part what bytes
 
 -- the reply to a request, with what is to be done for it, pays what is owed
 abbrev pub PaysAs : Option Plan → Sent → State → Type 0

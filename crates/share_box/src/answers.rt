@@ -1,16 +1,20 @@
 //! Replies, each as a frame of its own.
 
-ghost use Rattle.std.specs.Prelude.{◌≡◌, true, IfOk};
+ghost use Rattle.std.specs.Prelude.{◌≡◌, true, Ok, IfOk};
 ghost use Rattle.smb_head.specs.Header.{head_of};
+ghost use Rattle.fs_plain.specs.Masked.{untold};
+ghost use Rattle.share_box.specs.Bodies.{in_part};
 ghost use Rattle.share_box.specs.Paid.{IsReplyTo};
 ghost use Rattle.share_box.specs.Answers.{is_first_message, said_session, said_aside, session_of, tree_of, route_of, flags_of, pending, reply_head, reply_of, interim_of};
 
 use crate::bodies::{Said, put_body, status_of};
+use crate::requests::STANDARD;
 use share_spec::{Rep, RepBody};
 use smb_base::{Bytes, NoMemory, Status};
 use smb_body_a::read_session_setup_request;
+use smb_body_c::read_query_info_request;
 use smb_chain::ChainBuilder;
-use smb_head::command::{NEGOTIATE, SESSION_SETUP, TREE_CONNECT};
+use smb_head::command::{NEGOTIATE, QUERY_INFO, SESSION_SETUP, TREE_CONNECT};
 use smb_head::{Head, Route, read_head};
 use smb_le::{HeadFlags, get_u32};
 use std::alloc::Global;
@@ -120,6 +124,21 @@ fn reply_head(head: &Head, credits: u16, pended: bool, said: &Said) -> Head
     }
 }
 
+// What a message asks for is told in part: it is a QUERY_INFO for FileStandardInformation.
+#[tactic(auto, unfolding(fs_plain::specs::Masked::untold))]
+fn is_told_in_part(head: &Head, message: &[u8]) -> bool
+    requires { head_of message.now ≡ Ok head.now }
+    ensures { result ≡ in_part (untold message.now) }
+{
+    if head.command != QUERY_INFO {
+        return false;
+    }
+    match read_query_info_request(message) {
+        Ok(query) => query.class == STANDARD,
+        Err(_) => false,
+    }
+}
+
 // The reply to a message, as a frame; no byte where the message has no header. It is an asynchronous one where the message was put off.
 #[tactic(auto, unfolding(crate::specs::Answers::reply_of, smb_chain::specs::Chain::chain))]
 pub(crate) fn reply(
@@ -132,13 +151,13 @@ pub(crate) fn reply(
     ensures exact { IfOk result (λ f. f ≡ reply_of credits pended message.now said.now) }
 
     // It is one frame of one message, whose header and body are read again.
-    ensures again { IfOk result (λ f. IsReplyTo (head_of message.now) credits pended said.now f) }
+    ensures again { IfOk result (λ f. IsReplyTo (head_of message.now) (in_part (untold message.now)) credits pended said.now f) }
 {
     let Ok(head) = read_head(message) else {
         return Ok(Bytes::new(alloc));
     };
     let mut body = Vec::new(alloc);
-    put_body(alloc, &mut body, said)?;
+    put_body(alloc, &mut body, is_told_in_part(&head, message), said)?;
     let mut chain = ChainBuilder::new(alloc);
     chain.add(&reply_head(&head, credits, pended, said), &body)?;
     chain.finish()
@@ -147,7 +166,7 @@ pub(crate) fn reply(
 // The interim reply to a message (MS-SMB2 3.3.4.2), which grants nothing.
 pub(crate) fn interim(alloc: Global, message: &[u8]) -> Result<Bytes, NoMemory>
     ensures exact { IfOk result (λ f. f ≡ interim_of message.now) }
-    ensures again { IfOk result (λ f. IsReplyTo (head_of message.now) 0 true pending f) }
+    ensures again { IfOk result (λ f. IsReplyTo (head_of message.now) (in_part (untold message.now)) 0 true pending f) }
 {
     reply(alloc, 0, true, message, &pending())
 }

@@ -3,10 +3,10 @@
 ghost use Rattle.std.specs.Prelude.{◌≡◌, ◌++◌, ◌≤◌, [], OnOk, length};
 ghost use Rattle.smb_field.specs.Body.{spelling, IsReadAgain};
 ghost use Rattle.smb_field.specs.Structure.{spelling_in};
-ghost use Rattle.smb_info.specs.Attributes.{all as fields_of_all};
+ghost use Rattle.smb_info.specs.Attributes.{all as fields_of_all, standard as fields_of_standard};
 ghost use Rattle.share_spec.specs.Reply.{attributes_of};
 ghost use Rattle.share_box.specs.Again.{IsInfoAgain, IsDoneAgain, IsRepAgain, IsBodyAgain};
-ghost use Rattle.share_box.specs.Bodies.{negotiated, session, tree, error, opened, closed, all, buffer, body_done, body_of_rep, body_of, status_of};
+ghost use Rattle.share_box.specs.Bodies.{negotiated, session, tree, error, opened, closed, all, standard, buffer, body_done, body_of_rep, body_of, status_of};
 
 use share_spec::{Rep, RepBody};
 use smb_base::{Fid, NoMemory, Status};
@@ -16,7 +16,7 @@ use smb_body_a::{
 };
 use smb_body_b::{CloseReply, CreateReply, write_close_reply, write_create_reply};
 use smb_body_c::{BufferReply, ErrorReply, write_buffer_reply, write_error_reply};
-use smb_info::{All, Basic, Internal, Standard, write_all};
+use smb_info::{All, Basic, Internal, Standard, write_all, write_standard};
 use std::alloc::Global;
 
 /// SMB 2.1 (MS-SMB2 2.2.4).
@@ -76,12 +76,18 @@ pub(crate) fn status_of(said: &Said) -> Status
     }
 }
 
-// Appends the body of a reply. For want of memory nothing is changed.
+// Appends the body of a reply, whose information of a file is FileStandardInformation where it is told in part. For want of memory
+// nothing is changed.
 #[tactic(auto, unfolding(crate::specs::Bodies::body_of, crate::specs::Again::IsBodyAgain))]
-pub(crate) fn put_body(alloc: Global, out: &mut Vec<u8>, said: &Said) -> Result<(), NoMemory>
-    ensures ok { OnOk result (out.new.items ≡ out.old.items ++ body_of said.now) }
-    ensures len { OnOk result (length (body_of said.now) ≤ 1000) }
-    ensures again { OnOk result (IsBodyAgain said.now) }
+pub(crate) fn put_body(
+    alloc: Global,
+    out: &mut Vec<u8>,
+    in_part: bool,
+    said: &Said,
+) -> Result<(), NoMemory>
+    ensures ok { OnOk result (out.new.items ≡ out.old.items ++ body_of in_part said.now) }
+    ensures len { OnOk result (length (body_of in_part said.now) ≤ 1000) }
+    ensures again { OnOk result (IsBodyAgain in_part said.now) }
 {
     match said {
         Said::Negotiated => put_negotiated(out),
@@ -89,7 +95,7 @@ pub(crate) fn put_body(alloc: Global, out: &mut Vec<u8>, said: &Said) -> Result<
         Said::Session => put_session(out, IS_NULL, &[]),
         Said::Tree => put_tree(out),
         Said::Done => write_empty(out, &Empty),
-        Said::Share(rep) => put_rep(alloc, out, rep),
+        Said::Share(rep) => put_rep(alloc, out, in_part, rep),
     }
 }
 
@@ -147,23 +153,23 @@ fn put_tree(out: &mut Vec<u8>) -> Result<(), NoMemory>
 }
 
 // The body of a reply of the share: that of an error where it was not done.
-fn put_rep(alloc: Global, out: &mut Vec<u8>, rep: &Rep) -> Result<(), NoMemory>
-    ensures ok { OnOk result (out.new.items ≡ out.old.items ++ body_of_rep rep.now) }
-    ensures len { OnOk result (length (body_of_rep rep.now) ≤ 1000) }
-    ensures again { OnOk result (IsRepAgain rep.now) }
+fn put_rep(alloc: Global, out: &mut Vec<u8>, in_part: bool, rep: &Rep) -> Result<(), NoMemory>
+    ensures ok { OnOk result (out.new.items ≡ out.old.items ++ body_of_rep in_part rep.now) }
+    ensures len { OnOk result (length (body_of_rep in_part rep.now) ≤ 1000) }
+    ensures again { OnOk result (IsRepAgain in_part rep.now) }
 {
     if rep.status.0 == 0 {
-        put_done(alloc, out, &rep.body)
+        put_done(alloc, out, in_part, &rep.body)
     } else {
         put_error(out)
     }
 }
 
 // The body of what was done on the share.
-fn put_done(alloc: Global, out: &mut Vec<u8>, body: &RepBody) -> Result<(), NoMemory>
-    ensures ok { OnOk result (out.new.items ≡ out.old.items ++ body_done body.now) }
-    ensures len { OnOk result (length (body_done body.now) ≤ 1000) }
-    ensures again { OnOk result (IsDoneAgain body.now) }
+fn put_done(alloc: Global, out: &mut Vec<u8>, in_part: bool, body: &RepBody) -> Result<(), NoMemory>
+    ensures ok { OnOk result (out.new.items ≡ out.old.items ++ body_done in_part body.now) }
+    ensures len { OnOk result (length (body_done in_part body.now) ≤ 1000) }
+    ensures again { OnOk result (IsDoneAgain in_part body.now) }
 {
     match body {
         RepBody::Opened {
@@ -181,8 +187,12 @@ fn put_done(alloc: Global, out: &mut Vec<u8>, body: &RepBody) -> Result<(), NoMe
             pending,
             number,
         } => {
-            let all = info_of(*dir, *size, *read_only, *links, *pending, *number);
-            put_info(alloc, out, &all)
+            if in_part {
+                put_standard(alloc, out, &standard_of(*dir, *size, *links, *pending))
+            } else {
+                let all = info_of(*dir, *size, *read_only, *links, *pending, *number);
+                put_info(alloc, out, &all)
+            }
         }
         _ => put_closed(out),
     }
@@ -258,6 +268,19 @@ fn attributes_of(dir: bool, read_only: bool) -> u32
     }
 }
 
+// What FileStandardInformation has of a file.
+fn standard_of(dir: bool, size: u64, links: u32, pending: bool) -> Standard
+    ensures { fields_of_standard result ≡ standard dir size links pending }
+{
+    Standard {
+        allocation_size: size,
+        end_of_file: size,
+        links,
+        delete_pending: u8::from(pending),
+        directory: u8::from(dir),
+    }
+}
+
 // All that is known of a file.
 fn info_of(dir: bool, size: u64, read_only: bool, links: u32, pending: bool, number: u64) -> All
     ensures { fields_of_all result ≡ all dir size read_only links pending number }
@@ -286,9 +309,19 @@ fn info_of(dir: bool, size: u64, read_only: bool, links: u32, pending: bool, num
 fn put_info(alloc: Global, out: &mut Vec<u8>, all: &All) -> Result<(), NoMemory>
     ensures ok { OnOk result (out.new.items ≡ out.old.items ++ spelling 9 (buffer 100) (spelling_in (fields_of_all all.now) [])) }
     ensures len { OnOk result (length (spelling 9 (buffer 100) (spelling_in (fields_of_all all.now) [])) ≤ 1000) }
-    ensures again { OnOk result (IsInfoAgain (fields_of_all all.now)) }
+    ensures again { OnOk result (IsInfoAgain 100 (fields_of_all all.now)) }
 {
     let mut info = Vec::new(alloc);
     write_all(&mut info, all)?;
+    write_buffer_reply(out, &BufferReply { buffer: &info })
+}
+
+fn put_standard(alloc: Global, out: &mut Vec<u8>, standard: &Standard) -> Result<(), NoMemory>
+    ensures ok { OnOk result (out.new.items ≡ out.old.items ++ spelling 9 (buffer 24) (spelling_in (fields_of_standard standard.now) [])) }
+    ensures len { OnOk result (length (spelling 9 (buffer 24) (spelling_in (fields_of_standard standard.now) [])) ≤ 1000) }
+    ensures again { OnOk result (IsInfoAgain 24 (fields_of_standard standard.now)) }
+{
+    let mut info = Vec::new(alloc);
+    write_standard(&mut info, standard)?;
     write_buffer_reply(out, &BufferReply { buffer: &info })
 }

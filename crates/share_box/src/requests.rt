@@ -1,12 +1,19 @@
 //! What a message asks for.
 
-ghost use Rattle.std.specs.Prelude.{◌≡◌, ◌<◌, ◌≤◌, ◌+◌, ◌*◌, ◌∷◌, ◌&&◌, [], nat_le, true, false, not, is_none, None, Some, IfOk, IfSome, MatchOption, option_map, if◌then◌else◌, length, drop};
-ghost use Rattle.smb_le.specs.Numbers.{number_at};
+ghost use Rattle.std.specs.Prelude.{◌≡◌, ◌<◌, ◌≤◌, ◌∷◌, [], true, false, not, is_none, is_ok, None, Some, IfOk, IfSome, MatchOption, option_map, if◌then◌else◌, length, drop};
+ghost use Rattle.smb_field.specs.Rows.{if_read};
+ghost use Rattle.smb_body_a.specs.Empty.{empty_of};
+ghost use Rattle.smb_body_a.specs.Negotiate.{negotiate_request_of};
+ghost use Rattle.smb_body_a.specs.Session.{session_setup_request_of};
+ghost use Rattle.smb_body_a.specs.Tree.{tree_connect_request_of};
+ghost use Rattle.smb_body_b.specs.Close.{close_request_of};
+ghost use Rattle.smb_body_b.specs.Create.{create_request_of, seen_create_request};
 ghost use Rattle.smb_body_b.specs.Contexts.{read_of};
+ghost use Rattle.smb_body_c.specs.Info.{query_info_request_of};
 ghost use Rattle.share_spec.specs.State.{has};
-ghost use Rattle.fs_plain.specs.Wire.{has_body, lies, units_in};
-ghost use Rattle.fs_plain.specs.Requests.{wire_request, is_aside, is_create, create_asked, close_asked, query_asked, by_command, asked_lease, WireRequest};
-ghost use Rattle.share_box.specs.Parsed.{wire_request_of, is_taken, IsCreateIn, is_plain, are_plain};
+ghost use Rattle.fs_plain.specs.Wire.{units_in};
+ghost use Rattle.fs_plain.specs.Requests.{wire_request, is_aside, create_asked, close_asked, is_query, query_asked, by_command, asked_lease, WireRequest};
+ghost use Rattle.share_box.specs.Parsed.{wire_request_of, is_taken, is_plain, are_plain};
 
 use share_spec::Req;
 use smb_base::{NoMemory, Units};
@@ -16,7 +23,7 @@ use smb_body_a::{
 use smb_body_b::{
     ContextSet, CreateRequest, read_close_request, read_contexts, read_create_request,
 };
-use smb_body_c::read_query_info_request;
+use smb_body_c::{QueryInfoRequest, read_query_info_request};
 use smb_head::command::{
     CLOSE, CREATE, ECHO, LOGOFF, NEGOTIATE, QUERY_INFO, SESSION_SETUP, TREE_CONNECT,
     TREE_DISCONNECT,
@@ -30,6 +37,9 @@ const FILE: u8 = 1;
 
 /// FileAllInformation (MS-FSCC 2.4).
 const ALL: u8 = 18;
+
+/// FileStandardInformation (MS-FSCC 2.4).
+pub(crate) const STANDARD: u8 = 5;
 
 /// The oplock level that asks for a lease (MS-SMB2 2.2.13).
 const LEASE: u8 = 0xFF;
@@ -120,38 +130,27 @@ fn reads_aside(command: u16, message: &[u8]) -> bool
 }
 
 fn reads_negotiate(message: &[u8]) -> bool
-    ensures { result ≡ (has_body 36 message.now && nat_le (100 + 2 * number_at 2 66 message.now) (length message.now)) }
+    ensures { result ≡ is_ok (negotiate_request_of message.now) }
 {
     read_negotiate_request(message).is_ok()
 }
 
 fn reads_session(message: &[u8]) -> bool
-    ensures { result ≡ (has_body 25 message.now && lies 25 (number_at 2 76 message.now) (number_at 2 78 message.now) message.now) }
+    ensures { result ≡ is_ok (session_setup_request_of message.now) }
 {
     read_session_setup_request(message).is_ok()
 }
 
 fn reads_tree(message: &[u8]) -> bool
-    ensures { result ≡ (has_body 9 message.now && lies 9 (number_at 2 68 message.now) (number_at 2 70 message.now) message.now) }
+    ensures { result ≡ is_ok (tree_connect_request_of message.now) }
 {
     read_tree_connect_request(message).is_ok()
 }
 
 fn reads_empty(message: &[u8]) -> bool
-    ensures { result ≡ has_body 4 message.now }
+    ensures { result ≡ is_ok (empty_of message.now) }
 {
     read_empty(message).is_ok()
-}
-
-// The body of a CREATE, if it reads.
-fn create_of(message: &[u8]) -> Option<CreateRequest<'_>>
-    ensures reads { MatchOption result (is_create message.now ≡ false) (λ _. is_create message.now ≡ true) }
-    ensures fields { IfSome result (λ x. IsCreateIn x message.now) }
-{
-    match read_create_request(message) {
-        Ok(create) => Some(create),
-        Err(_) => None,
-    }
 }
 
 // A CREATE, if it reads and wants neither a lease nor a durable open, new or old.
@@ -160,12 +159,24 @@ fn asked_create(
     related: bool,
     message: &[u8],
 ) -> Result<Option<ParsedRequest>, NoMemory>
-    ensures exact { IfOk result (λ a. option_map wire_request_of a ≡ create_asked related message.now) }
+    ensures exact { IfOk result (λ a. option_map wire_request_of a ≡ if_read (create_request_of message.now) (create_asked related) None) }
     ensures taken { IfOk result (λ a. IfSome a (λ x. is_taken x ≡ true)) }
 {
-    let Some(create) = create_of(message) else {
-        return Ok(None);
-    };
+    match read_create_request(message) {
+        Ok(create) => plain_create(alloc, related, &create),
+        Err(_) => Ok(None),
+    }
+}
+
+// The same by its fields.
+fn plain_create(
+    alloc: Global,
+    related: bool,
+    create: &CreateRequest<'_>,
+) -> Result<Option<ParsedRequest>, NoMemory>
+    ensures exact { IfOk result (λ a. option_map wire_request_of a ≡ create_asked related (seen_create_request create.now)) }
+    ensures taken { IfOk result (λ a. IfSome a (λ x. is_taken x ≡ true)) }
+{
     if !are_plain(create.oplock_level, create.contexts) {
         return Ok(None);
     }
@@ -243,7 +254,7 @@ fn units_of(alloc: Global, bytes: &[u8]) -> Result<Units, NoMemory>
 
 // A CLOSE, if it reads.
 fn asked_close(related: bool, message: &[u8]) -> Option<ParsedRequest>
-    ensures exact { option_map wire_request_of result ≡ close_asked related message.now }
+    ensures exact { option_map wire_request_of result ≡ if_read (close_request_of message.now) (close_asked related) None }
     ensures taken { IfSome result (λ x. is_taken x ≡ true) }
 {
     match read_close_request(message) {
@@ -252,14 +263,14 @@ fn asked_close(related: bool, message: &[u8]) -> Option<ParsedRequest>
     }
 }
 
-// A QUERY_INFO for all that is known of a file, if it reads.
+// A QUERY_INFO for all that is known of a file, or for FileStandardInformation, if it reads.
 fn asked_query(related: bool, message: &[u8]) -> Option<ParsedRequest>
-    ensures exact { option_map wire_request_of result ≡ query_asked related message.now }
+    ensures exact { option_map wire_request_of result ≡ if_read (query_info_request_of message.now) (query_asked related) None }
     ensures taken { IfSome result (λ x. is_taken x ≡ true) }
 {
     match read_query_info_request(message) {
         Ok(query) => {
-            if query.info_type == FILE && query.class == ALL {
+            if is_query(&query) {
                 Some(ParsedRequest::Share(related, Req::Query { fid: query.file_id }))
             } else {
                 None
@@ -267,4 +278,11 @@ fn asked_query(related: bool, message: &[u8]) -> Option<ParsedRequest>
         }
         Err(_) => None,
     }
+}
+
+// The classes of information of a file that are known.
+fn is_query(query: &QueryInfoRequest) -> bool
+    ensures { result ≡ is_query query.now }
+{
+    query.info_type == FILE && (query.class == ALL || query.class == STANDARD)
 }

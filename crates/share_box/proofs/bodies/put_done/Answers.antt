@@ -6,11 +6,8 @@ returns-in-Opened-clause-ok c = rw c.in-Opened.is c.put_opened.ensures.ok
 pub returns-in-Opened-clause-len : goal.returns-in-Opened-clause-len
 returns-in-Opened-clause-len c = rw c.in-Opened.is c.put_opened.ensures.len
 
-pub returns-in-Info-clause-len : goal.returns-in-Info-clause-len
-returns-in-Info-clause-len c = rw (c.in-Info.is, ← c.info_of-all.ensures) c.put_info.ensures.len
-
 pub returns-in-Opened-clause-again : goal.returns-in-Opened-clause-again
 returns-in-Opened-clause-again c = rw c.in-Opened.is c.put_opened.ensures.again
 
-pub returns-in-Info-clause-again : goal.returns-in-Info-clause-again
-returns-in-Info-clause-again c = rw (c.in-Info.is, ← c.info_of-all.ensures) c.put_info.ensures.again
+pub returns-else-in_part-clause-len : goal.returns-else-in_part-clause-len
+returns-else-in_part-clause-len c = rw (c.in-Info.is, c.if-in_part.false, ← c.info_of-all.ensures) c.put_info.ensures.len
