@@ -1,3 +1,4 @@
+mod Examples
 pub mod SameShare
 pub mod Streams
 pub mod Built
