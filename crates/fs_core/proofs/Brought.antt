@@ -2,12 +2,12 @@
 use Rattle.std.proofs.Common.{rules, ◌≡◌, inl, inr, refl, sym, ap, subst, ℕ, zero, suc, ◌-◌, ◌^◌, ◌<◌, ◌==◌, ◌&&◌, Bool, true, false, if◌then◌else◌, List, [], ◌∷◌, length, Option, Some, None, Result, Ok, Err, arith}
 use Rattle.smb_head.specs.declared.head.Head.{Head}
 use Rattle.smb_head.specs.declared.head.HeadFault.{HeadFault}
-use Rattle.smb_head.specs.Header.{head_of}
+use Rattle.smb_head.specs.Header.{head_of, is_interim}
 use Rattle.smb_chain.specs.declared.parts.BadNext.{BadNext}
 use Rattle.smb_chain.specs.Parts.{Step, Only, Then, Bad, step_of, with_rest, parts_of}
 use Rattle.smb_chain.proofs.PartLaws.{length-then, parts_of-step}
 use Rattle.share_spec.specs.State.{has}
-use Rattle.fs_plain.specs.Replies.{is_error, is_interim}
+use Rattle.fs_plain.specs.Replies.{is_error}
 use Rattle.fs_plain.specs.View.{messages_among}
 use Rattle.fs_core.specs.declared.reply_kind.Awaited.{Awaited}
 use Rattle.fs_core.specs.declared.reply_kind.ReplyFault.{ReplyFault}

@@ -7,7 +7,7 @@ use Rattle.smb_le.proofs.NumberLaws.{number_at-take}
 use Rattle.smb_head.specs.declared.head.TheConstants.{PROTOCOL}
 use Rattle.smb_head.specs.declared.head.Head.{Head}
 use Rattle.smb_head.specs.declared.head.HeadFault.{HeadFault}
-use Rattle.smb_head.specs.Header.{head_at, head_of}
+use Rattle.smb_head.specs.Header.{head_at, head_of, is_interim}
 use Rattle.smb_head.proofs.HeadLaws.{head_of-is_header}
 use Rattle.smb_chain.specs.declared.parts.BadNext.{BadNext}
 use Rattle.smb_chain.specs.Parts.{Step, Only, Then, Bad, step_of, with_rest, parts_of}
@@ -17,7 +17,7 @@ use Rattle.share_spec.specs.declared.connection.Owed.TheVariants as owed
 use Rattle.share_spec.specs.declared.share.Share.{Share}
 use Rattle.share_spec.specs.State.{has}
 use Rattle.fs_plain.specs.Masked.{Nothing, untold, masked}
-use Rattle.fs_plain.specs.Replies.{command_of, answers, is_interim, is_error, reply_by_status, is_aside_by_status}
+use Rattle.fs_plain.specs.Replies.{command_of, answers, is_error, reply_by_status, is_aside_by_status}
 use Rattle.fs_plain.specs.Replay.{Replay}
 use Rattle.fs_plain.specs.View.{Item, Flight, messages_among, IsFor, IsOf, Sound, Belongs, with_hand}
 use Rattle.fs_plain.specs.Related.{Related, Settles}

@@ -2,11 +2,11 @@
 use Rattle.std.proofs.Common.{rules, ◌≡◌, inl, inr, refl, ap, subst, ℕ, zero, suc, ◌==◌, ◌&&◌, ◌^◌, ◌-◌, length, Bool, true, false, if◌then◌else◌, List, Option, Some, None, Result, Ok, Err}
 use Rattle.smb_head.specs.declared.head.Head.{Head}
 use Rattle.smb_head.specs.declared.head.HeadFault.{HeadFault}
-use Rattle.smb_head.specs.Header.{head_of}
+use Rattle.smb_head.specs.Header.{head_of, is_interim}
 use Rattle.smb_chain.specs.Parts.{Step, Only, Then, Bad, step_of}
 use Rattle.share_spec.specs.State.{has}
 use Rattle.smb_link.specs.declared.event.Event.{Event}
-use Rattle.fs_plain.specs.Replies.{is_error, is_interim}
+use Rattle.fs_plain.specs.Replies.{is_error}
 use Rattle.fs_core.specs.declared.reply_kind.Awaited.{Awaited}
 use Rattle.fs_core.specs.declared.reply_kind.ReplyFault as kinds
 use Rattle.fs_core.specs.declared.reply_kind.ReplyFault.TheVariants as kind

@@ -3,12 +3,12 @@ use Rattle.std.proofs.Common.{rules, ◌≡◌, refl, ap, subst, ℕ, ◌==◌, 
 use Rattle.smb_base.specs.declared.names.Mid.{Mid}
 use Rattle.smb_head.specs.declared.head.Head.{Head}
 use Rattle.smb_head.specs.declared.head.HeadFault.{HeadFault}
-use Rattle.smb_head.specs.Header.{head_of}
+use Rattle.smb_head.specs.Header.{head_of, is_interim}
 use Rattle.share_spec.specs.declared.connection.Owed.{Owed}
 use Rattle.share_spec.specs.declared.connection.Owed.TheVariants as owed
 use Rattle.share_spec.specs.declared.request.Rep.{Rep}
 use Rattle.fs_plain.specs.Masked.{Untold, Nothing, untold, told_of, masked}
-use Rattle.fs_plain.specs.Replies.{command_of, answers, is_interim, is_error, reply_by_status, reply_with, reply_in, interim_with, is_interim_of, is_aside_by_status, aside_with, is_aside_reply}
+use Rattle.fs_plain.specs.Replies.{command_of, answers, is_error, reply_by_status, reply_with, reply_in, interim_with, is_interim_of, is_aside_by_status, aside_with, is_aside_reply}
 use Rattle.fs_plain.specs.View.{Flight, flight_with, flights_but, Sound}
 use Rattle.fs_plain.specs.Related.{Settles}
 

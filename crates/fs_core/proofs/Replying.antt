@@ -5,7 +5,7 @@ use Rattle.std.specs.Prelude.{map}
 use Rattle.smb_base.specs.declared.names.Mid.{Mid}
 use Rattle.smb_head.specs.declared.head.Head.{Head}
 use Rattle.smb_head.specs.declared.head.HeadFault.{HeadFault}
-use Rattle.smb_head.specs.Header.{head_of}
+use Rattle.smb_head.specs.Header.{head_of, is_interim}
 use Rattle.smb_chain.specs.declared.parts.BadNext.{BadNext}
 use Rattle.smb_chain.specs.Parts.{parts_of}
 use Rattle.share_spec.specs.declared.connection.Owed.{Owed}
@@ -16,7 +16,7 @@ use Rattle.share_spec.specs.State.{has}
 use Rattle.fs_types.specs.declared.options.Options.{Options}
 use Rattle.smb_link.specs.declared.event.Event.{Event}
 use Rattle.fs_plain.specs.Masked.{Nothing, untold, masked}
-use Rattle.fs_plain.specs.Replies.{command_of, answers, is_interim, reply_by_status, reply_in, is_interim_of}
+use Rattle.fs_plain.specs.Replies.{command_of, answers, reply_by_status, reply_in, is_interim_of}
 use Rattle.fs_plain.specs.Replay.{Replay}
 use Rattle.fs_plain.specs.View.{Item, Flight, View, flights_but, is_of_call, IsFor, Sound, Belongs, with_hand, without_flight, messages_among, with_reply, land}
 use Rattle.fs_plain.specs.Related.{Related, Settles}

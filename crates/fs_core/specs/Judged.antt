@@ -4,7 +4,7 @@ use Rattle.std.specs.List.{AllByRecursion}
 use Rattle.smb_head.specs.declared.command.TheConstants.{CREATE, CLOSE, QUERY_INFO, OPLOCK_BREAK}
 use Rattle.smb_head.specs.declared.head.Head.{Head}
 use Rattle.smb_head.specs.declared.head.HeadFault.{HeadFault}
-use Rattle.smb_head.specs.Header.{head_of}
+use Rattle.smb_head.specs.Header.{head_of, is_interim}
 use Rattle.smb_chain.specs.Parts.{Step, Only, Then, Bad, step_of, step_from}
 use Rattle.share_spec.specs.State.{has}
 use Rattle.smb_body_b.specs.Close.{close_reply_of}
@@ -12,7 +12,7 @@ use Rattle.smb_body_c.specs.Directory.{buffer_reply_of}
 use Rattle.smb_body_c.specs.Lease.{lease_break_of}
 use Rattle.fs_plain.specs.Masked.{Nothing}
 use Rattle.share_spec.specs.declared.request.Rep.{Rep}
-use Rattle.fs_plain.specs.Replies.{is_error, is_interim, opened_in, is_aside_by_status, reply_by_status}
+use Rattle.fs_plain.specs.Replies.{is_error, opened_in, is_aside_by_status, reply_by_status}
 use Rattle.fs_core.specs.declared.reply_kind.Awaited.{Awaited}
 use Rattle.fs_core.specs.declared.reply_kind.ReplyFault as kinds
 use Rattle.fs_core.specs.declared.reply_kind.ReplyFault.TheVariants as kind

@@ -1,7 +1,7 @@
 //! What a message of a frame is to the client.
 
 ghost use Rattle.std.specs.Prelude.{◌≡◌, ◌==◌, ◌≤◌, if◌then◌else◌, length};
-ghost use Rattle.fs_plain.specs.Replies.{is_error, is_interim, has_aside_body, is_aside_by_status};
+ghost use Rattle.fs_plain.specs.Replies.{is_error, has_aside_body, is_aside_by_status};
 ghost use Rattle.fs_core.specs.Seen.{is_done};
 ghost use Rattle.fs_core.specs.Judged.{has_share_body, has_done_body, has_reply_body, is_notice, look_of, looked, looked_by, look_at_reply, look_at_final};
 
@@ -102,7 +102,7 @@ fn look_for(head: &Head, part: &[u8], request: Awaited) -> Look
     if head.mid != request.mid {
         return Look::Fault(ReplyFault::Stranger);
     }
-    if head.command != request.command || !head.flags.contains(HeadFlags::REPLY) {
+    if !head.is_reply_to(request.command) {
         return Look::Fault(ReplyFault::Body);
     }
     look_at_reply(head, part)
@@ -112,7 +112,7 @@ fn look_for(head: &Head, part: &[u8], request: Awaited) -> Look
 fn look_at_reply(head: &Head, part: &[u8]) -> Look
     ensures { result ≡ look_at_reply head.now part.now }
 {
-    if is_interim(head) {
+    if head.is_interim() {
         return passed_where(is_error(part));
     }
     look_at_final(head, part)
@@ -127,13 +127,6 @@ fn look_at_final(head: &Head, part: &[u8]) -> Look
     } else {
         Look::Fault(ReplyFault::Body)
     }
-}
-
-// An interim reply: STATUS_PENDING with the flag ASYNC.
-fn is_interim(head: &Head) -> bool
-    ensures { result ≡ is_interim head.now }
-{
-    head.status == Status::PENDING && head.flags.0 & HeadFlags::ASYNC.0 != 0
 }
 
 // The notice that a lease is broken.

@@ -4,7 +4,7 @@ use Rattle.smb_base.specs.declared.names.Mid.{Mid}
 use Rattle.smb_head.specs.declared.command.TheConstants.{CREATE}
 use Rattle.smb_head.specs.declared.head.Head.{Head}
 use Rattle.smb_head.specs.declared.head.HeadFault.{HeadFault}
-use Rattle.smb_head.specs.Header.{head_of}
+use Rattle.smb_head.specs.Header.{head_of, is_interim}
 use Rattle.smb_head.specs.Stream.{frames_in, rest_in}
 use Rattle.smb_chain.specs.declared.parts.BadNext.{BadNext}
 use Rattle.share_spec.specs.declared.connection.Grant.{Grant}
@@ -13,7 +13,7 @@ use Rattle.share_spec.specs.State.{has}
 use Rattle.smb_link.specs.declared.event.Event.{Event}
 use Rattle.smb_link.specs.declared.event.Event.TheVariants as event
 use Rattle.fs_plain.specs.Masked.{Nothing}
-use Rattle.fs_plain.specs.Replies.{is_interim, opened_in}
+use Rattle.fs_plain.specs.Replies.{opened_in}
 use Rattle.fs_plain.specs.World.{messages_in, grant_in}
 
 -- the bytes that come before the connection ends

@@ -7,7 +7,7 @@ use Rattle.smb_le.specs.Numbers.{number_at}
 use Rattle.smb_head.specs.declared.command.TheConstants.{NEGOTIATE, SESSION_SETUP, TREE_CONNECT, CREATE, CLOSE, QUERY_INFO, OPLOCK_BREAK}
 use Rattle.smb_head.specs.declared.head.Head.{Head}
 use Rattle.smb_head.specs.declared.head.HeadFault.{HeadFault}
-use Rattle.smb_head.specs.Header.{head_of}
+use Rattle.smb_head.specs.Header.{head_of, is_reply, is_interim}
 use Rattle.smb_field.specs.declared.field.BodyFault.{BodyFault}
 use Rattle.smb_field.specs.Rows.{if_read}
 use Rattle.smb_body_a.specs.Empty.{empty_of}
@@ -39,11 +39,7 @@ command_of request = number_at 2 12 request
 
 -- a reply to this request, by its id: it has the flag of replies and the request's command
 abbrev pub answers : Mid → List ℕ → Head → Bool
-answers mid request head = has head.flags.0 1 && head.mid.0 == mid.0 && head.command == command_of request
-
--- an interim reply (MS-SMB2 3.3.4.2): STATUS_PENDING with the flag ASYNC
-abbrev pub is_interim : Head → Bool
-is_interim head = head.status.0 == 0x103 && has head.flags.0 2
+answers mid request head = is_reply head && head.mid.0 == mid.0 && head.command == command_of request
 
 -- the error body (MS-SMB2 2.2.2)
 abbrev pub is_error : List ℕ → Bool

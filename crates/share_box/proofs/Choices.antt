@@ -11,7 +11,7 @@ use Rattle.smb_le.specs.Numbers.{number_at}
 use Rattle.smb_head.specs.declared.command.TheConstants.{CREATE}
 use Rattle.smb_head.specs.declared.head.Head.{Head}
 use Rattle.smb_head.specs.declared.head.HeadFault.{HeadFault}
-use Rattle.smb_head.specs.Header.{head_of}
+use Rattle.smb_head.specs.Header.{head_of, is_interim}
 use Rattle.smb_head.specs.Stream.{frames_in, rest_in}
 use Rattle.smb_head.proofs.FrameLaws.{first_of-nil}
 use Rattle.smb_head.proofs.StreamLaws.{settled-partial, split, settled}
@@ -48,7 +48,7 @@ use Rattle.share_spec.specs.declared.request.RepBody.TheVariants as body
 use Rattle.fs_plain.specs.Masked.{Untold, Nothing, NumberAndMark, Durability, untold, without_number, told_of, masked}
 use Rattle.fs_plain.proofs.Whole.{tells_durability, asked_tells}
 use Rattle.fs_plain.specs.Requests.{WireRequest, wire_request}
-use Rattle.fs_plain.specs.Replies.{Pays, command_of, answers, reply_of, reply_by_status, reply_with, reply_in, opened_in, is_interim, interim_with, is_interim_of, is_aside_by_status, aside_with, is_aside_reply, notice_with, IsNotice, is_error, IsNoticeBody, opened_with}
+use Rattle.fs_plain.specs.Replies.{Pays, command_of, answers, reply_of, reply_by_status, reply_with, reply_in, opened_in, interim_with, is_interim_of, is_aside_by_status, aside_with, is_aside_reply, notice_with, IsNotice, is_error, IsNoticeBody, opened_with}
 use Rattle.fs_plain.specs.World.{us, grant_in, requests_in, messages_in, messages_got, resolved, refused_before, unless_refused_before, choice_now, after_sent, after_done, after_taking, after_took_of, after_pend_of, notices, breakable, happens}
 use Rattle.fs_plain.specs.Ahead.{still_to_come, is_final, choice_of, is_opened, choice_among, ahead}
 use Rattle.fs_plain.specs.Honest.{ArePaid, HonestFrom, IsHonest}

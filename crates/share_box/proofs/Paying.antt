@@ -26,7 +26,6 @@ use Rattle.share_spec.specs.Query.{info_reply}
 use Rattle.share_spec.specs.Step.{step_of}
 use Rattle.share_spec.specs.Built.{is_built}
 use Rattle.std.proofs.lemmas.Bool.{false≢true}
-use Rattle.fs_plain.specs.Wire.{has_body, lies}
 use Rattle.fs_plain.specs.Requests.{WireRequest, wire_request}
 use Rattle.fs_plain.specs.Masked.{Untold, Nothing, NumberAndMark, Durability, untold, without, told_of}
 use Rattle.fs_plain.specs.Replies.{is_error, body_in, reply_of, reply_by_status, is_aside_by_status, Pays}
@@ -36,7 +35,7 @@ use Rattle.share_box.specs.declared.serving.Plan.{Plan}
 use Rattle.share_box.specs.declared.state.State.{State}
 use Rattle.share_box.specs.Bodies.{negotiated, challenge, session, tree, empty, error, opened, closed, in_part, information_size, buffer, body_of, status_of}
 use Rattle.share_box.specs.Again.{IsBodyAgain}
-use Rattle.share_box.specs.Answers.{is_first_message, token_in, said_session, said_aside, reply_head, pending, interim_of, begins_session}
+use Rattle.share_box.specs.Answers.{begins_session, said_session, said_aside, reply_head, pending, interim_of}
 use Rattle.share_box.specs.Serving.{plan_of, said_under, done_by}
 use Rattle.share_box.specs.Paid.{IsPayment, owed_for, is_refusal, IsProper, IsReply, IsReplyTo, PaysAs, PaysInterim}
 use Rattle.share_box.proofs.Reading.{stands, error_is, closed_is, opened_is, info_is, negotiated_is, session_is, tree_is, empty_is}
