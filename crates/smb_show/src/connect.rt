@@ -1,6 +1,5 @@
 //! The kinds of messages that open and close a connection to a share, as `smb_body_a` reads them.
 
-use crate::page::{Item, Page, body_fault, header};
 use smb_base::NoMemory;
 use smb_body_a::{
     read_empty, read_negotiate_reply, read_negotiate_request, read_session_setup_reply,
@@ -8,6 +7,7 @@ use smb_body_a::{
     write_negotiate_reply, write_negotiate_request, write_session_setup_reply,
     write_session_setup_request, write_tree_connect_reply, write_tree_connect_request,
 };
+use test_text::{Item, Page, body_fault, header};
 
 /// Adds the lines of a vector, if its kind is one of these.
 pub fn show(page: &mut Page, kind: &str, part: &[u8]) -> Result<bool, NoMemory> {

@@ -1,6 +1,5 @@
 //! The kinds of messages on files, as `smb_body_b` reads them.
 
-use crate::page::{Item, Page, body_fault, header};
 use smb_base::NoMemory;
 use smb_body_b::{
     read_close_reply, read_close_request, read_contexts, read_create_reply, read_create_request,
@@ -9,6 +8,7 @@ use smb_body_b::{
     write_create_request, write_flush_request, write_read_reply, write_read_request,
     write_write_reply, write_write_request,
 };
+use test_text::{Item, Page, body_fault, header};
 
 /// Adds the lines of a vector, if its kind is one of these.
 pub fn show(page: &mut Page, kind: &str, part: &[u8]) -> Result<bool, NoMemory> {

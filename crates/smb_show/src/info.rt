@@ -1,6 +1,5 @@
 //! The classes of information, as `smb_info` reads them.
 
-use crate::page::{Item, Page};
 use smb_base::NoMemory;
 use smb_info::{
     DirEntry, Entries, InfoFault, read_all, read_basic, read_disposition, read_end_of_file,
@@ -9,6 +8,7 @@ use smb_info::{
     write_fs_full_size, write_id_full_directory, write_internal, write_link, write_rename,
     write_standard,
 };
+use test_text::{Item, Page};
 
 /// Adds the lines of a vector, if its kind is one of these.
 pub fn show(page: &mut Page, kind: &str, info: &[u8]) -> Result<bool, NoMemory> {

@@ -4,10 +4,10 @@ ghost use Rattle.std.specs.Prelude.{◌≡◌, ◌++◌, IfOk, MatchResult, Ok, 
 ghost use Rattle.smb_show.specs.Line.{bytes_of, is_vector};
 
 use crate::fault::LineFault;
-use crate::page::Page;
 use crate::{connect, files, info, names, requests, wire};
 use hex::FromHexError;
 use std::alloc::Global;
+use test_text::Page;
 
 /// Whether a line is a vector: it is not empty and does not begin with `#`.
 pub fn is_vector(line: &str) -> bool

@@ -9,7 +9,6 @@ mod files;
 mod info;
 mod line;
 mod names;
-mod page;
 mod requests;
 mod wire;
 

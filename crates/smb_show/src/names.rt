@@ -2,11 +2,11 @@
 //! first; those of a name or a path are its UTF-8.
 
 use crate::fault::LineFault;
-use crate::page::{Item, Page};
 use smb_base::{NoMemory, Text, TextList, Units};
 use smb_names::{NameFault, NameMap, from_wire, split_path, to_wire, wire_path};
 use std::alloc::Global;
 use std::str;
+use test_text::{Item, Page};
 
 /// Adds the lines of a vector, if its kind is one of these.
 pub fn show(page: &mut Page, kind: &str, bytes: &[u8]) -> Result<bool, LineFault> {

@@ -1,6 +1,5 @@
 //! The kinds of other messages, as `smb_body_c` reads them.
 
-use crate::page::{Item, Page, body_fault, header};
 use smb_base::NoMemory;
 use smb_body_c::{
     read_buffer_reply, read_error_reply, read_lease_ack, read_lease_break, read_lock_request,
@@ -9,6 +8,7 @@ use smb_body_c::{
     write_lease_break, write_lock_request, write_query_directory_request, write_query_info_request,
     write_set_info_reply, write_set_info_request,
 };
+use test_text::{Item, Page, body_fault, header};
 
 /// Adds the lines of a vector, if its kind is one of these.
 pub fn show(page: &mut Page, kind: &str, part: &[u8]) -> Result<bool, NoMemory> {

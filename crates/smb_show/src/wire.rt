@@ -1,6 +1,5 @@
 //! The kinds of what stands round every message, as `smb_head` and `smb_chain` read it.
 
-use crate::page::{Item, Page};
 use smb_base::{Bytes, NoMemory};
 use smb_chain::{BadNext, ChainBuilder, first_part, split};
 use smb_head::{
@@ -8,6 +7,7 @@ use smb_head::{
     read_head, write_head,
 };
 use std::alloc::Global;
+use test_text::{Item, Page};
 
 /// Adds the lines of a vector, if its kind is one of these.
 pub fn show(page: &mut Page, kind: &str, bytes: &[u8]) -> Result<bool, NoMemory> {

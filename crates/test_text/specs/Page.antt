@@ -5,8 +5,8 @@ use Rattle.std.specs.List.{flat_map}
 use Rattle.hex.specs.Hex.{encode_lower}
 use Rattle.smb_field.specs.declared.field.BodyFault.{BodyFault}
 use Rattle.smb_field.specs.declared.field.BodyFault.TheVariants.{Short, Size, Value, Offset}
-use Rattle.smb_show.specs.declared.page.Item.{Item}
-use Rattle.smb_show.specs.declared.page.Item.TheVariants.{Number, Bytes}
+use Rattle.test_text.specs.declared.page.Item.{Item}
+use Rattle.test_text.specs.declared.page.Item.TheVariants.{Number, Bytes}
 
 -- bytes in hex, and `-` where there is none
 abbrev pub hex_text : List ℕ → List ℕ
@@ -22,20 +22,20 @@ item_line (Number name value) = named name.now (decimal value)
 item_line (Bytes name value) = named name.now (hex_text value.now)
 
 -- the fields of a message, in order
-abbrev pub item_lines : List Item → List ℕ
+unfoldable pub item_lines : List Item → List ℕ
 item_lines items = flat_map item_line items
 
 -- what a reader refused
-abbrev pub fault_line : List ℕ → List ℕ
+unfoldable pub fault_line : List ℕ → List ℕ
 fault_line name = codes "  fault " ++ (name ++ codes "\n")
 
 -- the name of what a reader of a body refused
-abbrev pub body_fault_name : BodyFault → List ℕ
+unfoldable pub body_fault_name : BodyFault → List ℕ
 body_fault_name Short = codes "Short"
 body_fault_name Size = codes "Size"
 body_fault_name Value = codes "Value"
 body_fault_name Offset = codes "Offset"
 
 -- that a message is written again byte for byte
-abbrev pub again_line : List ℕ → List ℕ → List ℕ
+unfoldable pub again_line : List ℕ → List ℕ → List ℕ
 again_line written read = if bytes_eq written read then codes "  spelled again\n" else []

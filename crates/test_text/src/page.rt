@@ -1,7 +1,7 @@
 //! The lines that are printed of a vector.
 
 ghost use Rattle.std.specs.Prelude.{◌≡◌, ◌++◌, [], IfOk, OnOk, codes, string_bytes, take};
-ghost use Rattle.smb_show.specs.Page.{again_line, body_fault_name, fault_line, hex_text, item_line, item_lines, named};
+ghost use Rattle.test_text.specs.Page.{again_line, body_fault_name, fault_line, hex_text, item_line, item_lines, named};
 ghost use Rattle.std.specs.Fmt.{decimal};
 
 use smb_base::NoMemory;
@@ -73,6 +73,7 @@ impl Page {
     }
 
     /// Adds the line of a fault. It fails only for want of memory.
+    #[tactic(auto, unfolding(crate::specs::Page::fault_line))]
     pub fn fault(&mut self, name: &str) -> Result<(), NoMemory>
         ensures { OnOk result (self.new ≡ self.old ++ fault_line name.now) }
     {
@@ -82,6 +83,7 @@ impl Page {
     }
 
     /// Adds a line where what was written is what was read. It fails only for want of memory.
+    #[tactic(auto, unfolding(crate::specs::Page::again_line))]
     pub fn again(&mut self, written: &[u8], read: &[u8]) -> Result<(), NoMemory>
         ensures { OnOk result (self.new ≡ self.old ++ again_line written.now read.now) }
     {
@@ -93,6 +95,7 @@ impl Page {
 }
 
 // Adds a line for each field.
+#[tactic(auto, unfolding(crate::specs::Page::item_lines))]
 fn put_items(alloc: Global, out: &mut String, items: &[Item<'_>]) -> Result<(), NoMemory>
     ensures { OnOk result (string_bytes out.new ≡ string_bytes out.old ++ item_lines items.now) }
 {
@@ -138,6 +141,7 @@ fn hex_text(alloc: Global, bytes: &[u8]) -> Result<String, NoMemory>
 }
 
 /// Adds the line of what a reader of a body refused. It fails only for want of memory.
+#[tactic(auto, unfolding(crate::specs::Page::body_fault_name))]
 pub fn body_fault(page: &mut Page, fault: BodyFault) -> Result<(), NoMemory>
     ensures { OnOk result (page.new ≡ page.old ++ fault_line (body_fault_name fault)) }
 {
