@@ -1,14 +1,13 @@
 -- The reply to a request that the share takes tells whether an open is durable: a reclaim is another request.
 use Rattle.std.proofs.Common.{rules, ◌≡◌, refl, ℕ, ◌==◌, Bool, true, false, if◌then◌else◌, List, Option, Some, None, Result, Ok, Err}
 use Rattle.std.specs.Prelude.{is_some}
-use Rattle.smb_head.specs.declared.command.TheConstants.{CREATE, CLOSE, QUERY_INFO}
+use Rattle.smb_head.specs.declared.command.TheConstants.{CREATE, QUERY_INFO}
 use Rattle.smb_head.specs.declared.head.Head.{Head}
 use Rattle.smb_head.specs.declared.head.HeadFault.{HeadFault}
 use Rattle.smb_head.specs.Header.{head_of}
 use Rattle.smb_field.specs.declared.field.BodyFault.{BodyFault}
 use Rattle.smb_field.specs.Rows.{if_read}
 use Rattle.smb_body_b.specs.declared.contexts.ContextSet.{ContextSet}
-use Rattle.smb_body_b.specs.Close.{close_request_of}
 use Rattle.smb_body_b.specs.Create.{CreateRequestValue, create_request_of}
 use Rattle.smb_body_b.specs.Contexts.{read_of}
 use Rattle.smb_body_c.specs.declared.info.QueryInfoRequest.{QueryInfoRequest}
@@ -16,7 +15,7 @@ use Rattle.smb_body_c.specs.Info.{query_info_request_of}
 use Rattle.share_spec.specs.declared.request.Req.{Req}
 use Rattle.share_spec.specs.State.{has}
 use Rattle.fs_plain.specs.Masked.{Untold, Nothing, NumberAndMark, Durability, untold_of_class, untold_of_contexts, untold_with, untold}
-use Rattle.fs_plain.specs.Requests.{WireRequest, create_with, create_asked, close_asked, query_asked, is_aside, asked_with, wire_request}
+use Rattle.fs_plain.specs.Requests.{WireRequest, create_with, create_asked, asked_with, wire_request}
 
 -- whether a reply that leaves this out tells it
 abbrev pub tells_durability : Untold → Bool

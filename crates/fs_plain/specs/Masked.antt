@@ -7,9 +7,8 @@ use Rattle.smb_head.specs.Header.{head_of}
 use Rattle.smb_field.specs.declared.field.BodyFault.{BodyFault}
 use Rattle.smb_field.specs.Rows.{if_read}
 use Rattle.smb_body_b.specs.declared.contexts.ContextSet.{ContextSet}
-use Rattle.smb_body_b.specs.Create.{CreateRequestValue, create_request_of}
+use Rattle.smb_body_b.specs.Create.{create_request_of}
 use Rattle.smb_body_b.specs.Contexts.{read_of}
-use Rattle.smb_body_c.specs.declared.info.QueryInfoRequest.{QueryInfoRequest}
 use Rattle.smb_body_c.specs.Info.{query_info_request_of}
 use Rattle.share_spec.specs.declared.request.RepBody.{RepBody}
 use Rattle.share_spec.specs.declared.request.RepBody.TheVariants as body

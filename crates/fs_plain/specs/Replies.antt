@@ -31,7 +31,7 @@ use Rattle.share_spec.specs.declared.request.Rep.{Rep}
 use Rattle.share_spec.specs.declared.request.RepBody.{RepBody}
 use Rattle.share_spec.specs.declared.request.RepBody.TheVariants as body
 use Rattle.share_spec.specs.State.{has}
-use Rattle.fs_plain.specs.Masked.{Untold, Nothing, NumberAndMark, untold, without, masked}
+use Rattle.fs_plain.specs.Masked.{Untold, NumberAndMark, untold, without, masked}
 
 -- the command of a request
 abbrev pub command_of : List ℕ → ℕ

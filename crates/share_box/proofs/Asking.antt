@@ -19,7 +19,6 @@ use Rattle.smb_body_c.specs.declared.info.QueryInfoRequest.{QueryInfoRequest}
 use Rattle.smb_body_c.specs.Info.{query_info_request_of}
 use Rattle.smb_body_b.specs.declared.contexts.ContextSet.{ContextSet}
 use Rattle.smb_body_b.specs.Contexts.{read_of}
-use Rattle.smb_le.specs.Numbers.{number_at}
 use Rattle.share_spec.specs.declared.connection.LastCreate.{LastCreate}
 use Rattle.share_spec.specs.declared.connection.LastCreate.TheVariants as last
 use Rattle.share_spec.specs.declared.connection.Sent.{Sent}

@@ -7,7 +7,7 @@ use Rattle.smb_base.specs.declared.names.Fid.{Fid}
 use Rattle.smb_le.specs.Numbers.{number_at}
 use Rattle.smb_field.specs.declared.field.Field.{Field}
 use Rattle.smb_field.specs.declared.field.BodyFault.{BodyFault}
-use Rattle.smb_field.specs.Body.{IsBody, IsReadAgain, spelling, end_of_fixed}
+use Rattle.smb_field.specs.Body.{IsBody, IsReadAgain, spelling}
 use Rattle.smb_field.specs.Structure.{IsStructure, IsReadAgainIn, spelling_in}
 use Rattle.smb_field.specs.Rows.{part_in, if_read}
 use Rattle.smb_field.proofs.Parts.{part_read}
@@ -16,7 +16,6 @@ use Rattle.smb_body_a.specs.Negotiate.{negotiate_reply_of}
 use Rattle.smb_body_a.specs.Session.{session_setup_reply_of}
 use Rattle.smb_body_a.specs.Tree.{tree_connect_reply_of}
 use Rattle.smb_body_b.specs.declared.contexts.ContextSet.{ContextSet}
-use Rattle.smb_body_b.specs.declared.close.CloseReply.{CloseReply}
 use Rattle.smb_body_b.specs.Close.{close_reply_of}
 use Rattle.smb_body_b.specs.Create.{CreateReplyValue, create_reply_of}
 use Rattle.smb_body_b.specs.Contexts.{contexts_of, set_of, read_of}
@@ -25,7 +24,6 @@ use Rattle.smb_body_c.specs.Error.{error_reply_of}
 use Rattle.smb_info.specs.declared.attributes.All.{All}
 use Rattle.smb_info.specs.declared.attributes.Standard.{Standard}
 use Rattle.smb_info.specs.Attributes.{all_of, standard_of}
-use Rattle.share_spec.specs.declared.request.RepBody.{RepBody}
 use Rattle.share_spec.specs.declared.request.RepBody.TheVariants as body
 use Rattle.share_spec.specs.State.{has}
 use Rattle.share_spec.specs.Reply.{attributes_of}

@@ -1,5 +1,5 @@
 -- What a row reads of a message in which the fields of its table stand.
-use Rattle.std.proofs.Common.{◌≡◌, ◌∙◌, ◌≤◌, ℕ, ◌+◌, ◌-◌, Bool, true, false, List, [], ◌∷◌, take, drop, length, inl, inr, refl, sym, ap, arith, Some, None, Result, Ok, Err}
+use Rattle.std.proofs.Common.{◌≡◌, ◌∙◌, ◌≤◌, ℕ, ◌+◌, ◌-◌, Bool, true, false, List, [], ◌∷◌, take, drop, length, inl, inr, refl, ap, arith, Some, None, Result, Ok, Err}
 use Rattle.std.specs.Prelude.{slice_range, ◌&&◌, ◌||◌, ◌==◌, nat_le, nat_lt, if◌then◌else◌, is_ok}
 use Rattle.std.proofs.lemmas.Bool.Decides.{nat_tests, eqb_tells}
 use Rattle.smb_le.specs.Numbers.{number_at}
