@@ -8,7 +8,7 @@ HERE = os.path.dirname(os.path.abspath(__file__))
 FILE = os.path.join(HERE, "..", "..", "crates", "fs_rows", "stdin")
 REPLY, INTERIM, PENDING = 1, 3, 0x103
 # what a row says of a run with another side, and of an outside that fails
-OTHERS = {"box", "mount", "turns", "serve", "act", "connect", "receive", "over", "send", "ask", "request", "fail-read", "fail-write"}
+OTHERS = {"box", "mount", "says", "turns", "serve", "act", "connect", "receive", "over", "send", "ask", "request", "story", "clock", "fail-read", "fail-write"}
 EXPECTED = {">", "status", "sent", "connects", "frame", "marks"}
 
 

@@ -1,3 +1,4 @@
+pub mod Examples
 pub mod Sent
 pub mod Units
 pub mod Creates

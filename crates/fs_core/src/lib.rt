@@ -5,12 +5,8 @@ mod asking;
 mod exchange;
 mod judge;
 mod listen;
-#[cfg(test)]
-mod listen_tests;
 mod read;
 mod reply_kind;
-#[cfg(test)]
-mod tests;
 mod wire;
 mod write;
 

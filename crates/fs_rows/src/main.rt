@@ -5,8 +5,6 @@
 //! does not come out, once all were played.
 #![tactic(auto)]
 
-ghost use Rattle.std.specs.Prelude.{◌≡◌, ◌↔◌, IsTrue};
-
 mod book;
 mod bytes;
 mod frames;
@@ -14,6 +12,7 @@ mod mount;
 mod outcome;
 mod requests;
 mod row;
+mod says;
 mod slow;
 mod story;
 mod words;
@@ -22,6 +21,7 @@ use anyhow::{Context, Result, ensure};
 use book::Book;
 use outcome::{found, wanted};
 use std::io::{BufRead, BufReader};
+use test_text::is_same;
 
 /// The size of pieces where a row says none.
 const WHOLE: usize = 65_536;
@@ -85,13 +85,6 @@ fn once(rt: &(impl Print + AllocGlobal), book: &Book, number: usize, size: usize
     println!(rt; "row {name} in pieces of {size}: found")?;
     show(rt, &got)?;
     Ok(false)
-}
-
-/// Whether what was found is what was wanted, byte by byte.
-fn is_same(want: &[u8], got: &[u8]) -> bool
-    ensures { IsTrue result ↔ (want.now ≡ got.now) }
-{
-    want == got
 }
 
 /// Prints a text, or in hex what is none.

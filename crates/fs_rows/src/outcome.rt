@@ -2,6 +2,7 @@
 
 use crate::mount::mount;
 use crate::row::{Row, Side, Step, Wanted};
+use crate::says::says;
 use crate::slow::Slow;
 use crate::story::{connects, marks, put, sent, tell};
 use anyhow::{Result, bail};
@@ -32,6 +33,7 @@ pub fn found(alloc: Global, row: &mut Row, size: usize) -> Result<Vec<u8>> {
             let path = row.path.as_str();
             mount(alloc, path, previous, &row.steps, row.wanted.requests)
         }
+        Side::Says => says(alloc, &row.steps),
         Side::None => bail!("the row names no other side"),
     }
 }
@@ -188,6 +190,9 @@ fn report(
     wanted: &Wanted,
 ) -> Result<Vec<u8>> {
     let mut text = Vec::from_slice(alloc, sink.written())?;
+    if wanted.story {
+        tell(alloc, events, &mut text)?;
+    }
     if wanted.status.is_some() {
         put(&mut text, format!(in alloc; "status {status}\n")?.as_str())?;
     }

@@ -20,6 +20,8 @@ pub enum Side {
     Share(u64, bool, u16),
     /// No connection: the states of a mount alone, in place of the session with this number.
     Mount(u64),
+    /// No connection: replies alone, of which each says something.
+    Says,
 }
 
 /// A step of a peer, of the one who uses a share's link, or of a mount.
@@ -58,6 +60,8 @@ pub struct Wanted {
     pub marks: Vec<(u64, u64)>,
     /// Whether a mount tells its requests.
     pub requests: bool,
+    /// Whether a run tells its story.
+    pub story: bool,
 }
 
 /// What a row says.
@@ -115,6 +119,7 @@ impl Row {
                 frames: Vec::new(alloc),
                 marks: Vec::new(alloc),
                 requests: false,
+                story: false,
             },
             head: [0; 64],
         })
@@ -229,6 +234,11 @@ impl Row {
                 self.side = share_of(rest)?;
                 self.steps.clear();
                 self.turns = TurnList::new(self.alloc);
+            }
+            "says" => {
+                self.side = Side::Says;
+                self.steps.clear();
+                nothing(rest)?;
             }
             "mount" => {
                 let (previous, path) = cut(rest);
@@ -446,6 +456,10 @@ impl Row {
             "marks" => {
                 let (line, frames) = cut(rest);
                 self.wanted.marks.push((number(line)?, number(frames)?))?;
+            }
+            "story" => {
+                nothing(rest)?;
+                self.wanted.story = true;
             }
             "request" => self.wants_request(names, rest)?,
             _ => bail!("no row has the word {word:?}"),
