@@ -18,3 +18,4 @@ pub mod Keeping
 pub mod Steps
 pub mod Taken
 pub mod Bodies
+pub mod Mounts

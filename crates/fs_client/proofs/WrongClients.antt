@@ -1,7 +1,7 @@
 -- Clients that do what they may not.
-use Rattle.std.proofs.Common.{arith, ◌≡◌, ◌<◌, ◌≤◌, rules, refl, sym, ap, ℕ, ◌==◌, max, bit_and, if◌then◌else◌, true, false, [], ◌∷◌, ◌++◌, List, Bool}
+use Rattle.std.proofs.Common.{arith, ◌≡◌, ◌<◌, ◌≤◌, rules, refl, sym, ap, subst, ◌∙◌, ℕ, ◌==◌, max, bit_and, if◌then◌else◌, true, false, [], ◌∷◌, ◌++◌, List, Bool}
 use Rattle.std.proofs.lemmas.Bool.{false≢true}
-use Rattle.std.specs.Prelude.{codes, take}
+use Rattle.std.specs.Prelude.{codes, take, set, slice_index, map, None}
 use Rattle.std.specs.Str.{chars}
 use Rattle.share_spec.specs.Names.{components}
 use Rattle.fs_types.specs.declared.answer.Answer.{Answer}
@@ -20,6 +20,24 @@ use Rattle.smb_names.specs.WireName as name
 use Rattle.fs_plain.specs.Requests.{wire_request}
 use Rattle.fs_plain.specs.Replies.{reply_in, is_aside_reply}
 use Rattle.fs_plain.proofs.Frames.{opened_frame, both_frame, chain_frame}
+use Rattle.smb_le.specs.Numbers.{bytes_of}
+use Rattle.smb_head.specs.Header.{header}
+use Rattle.smb_head.specs.Stream as stream
+use Rattle.smb_chain.specs.Chain.{chain}
+use Rattle.smb_credit.specs.Window.{numbers, usable, after_use, up_to}
+use Rattle.smb_field.specs.Body.{spelling}
+use Rattle.smb_field.specs.Fields.{spelled}
+use Rattle.smb_field.specs.TwoParts.{spelling_of_two}
+use Rattle.smb_mount.specs.declared.facts.Facts.{Facts}
+use Rattle.smb_mount.specs.Requests.{unit_bytes}
+use Rattle.smb_mux.specs.Sending.{placed}
+use Rattle.smb_base.specs.declared.names.Fid.{Fid}
+use Rattle.smb_link.specs.Program.{File, Wish}
+use Rattle.fs_client.specs.Item.{file_id}
+use Rattle.fs_client.specs.Spelled.{request_for}
+use Rattle.fs_client.specs.Mount.{Mounted, LeadTo, at_first}
+use Rattle.fs_client.proofs.Mounts.{one_share}
+use Rattle.fs_client.proofs.Spellings.{facts}
 use Rattle.fs_client.specs.View.{Exchange, Client}
 use Rattle.fs_client.specs.After.{all_after}
 use Rattle.fs_client.specs.May.{IsLeavingTree, Mounting, Echo, LeavingTree, LeavingSession, May}
@@ -44,6 +62,12 @@ three_free = omega arith
 
 some_none : {X : Type 0} {x : X} {xs : List X} → x ∷ xs ≡ [] → ⊥
 some_none is = search rules
+
+two_one : ◌≡◌ {A = ℕ} 2 1 → ⊥
+two_one is = omega (arith, is)
+
+two_zero : ◌≡◌ {A = ℕ} 2 0 → ⊥
+two_zero is = omega (arith, is)
 
 -- the client once these events happened on a share that was mounted by these exchanges
 abbrev pub done : List Exchange → List Event → Client
@@ -110,3 +134,21 @@ an_early_leave exchanges frame m = false≢true m.leaving.over
 after_a_loss : (exchanges : List Exchange) (first : Mid) (count : ℕ) → May s (done exchanges (begins ∷ event.Cut ∷ event.Joined ∷ [])) (event.Marked (mark.For 1 first count)) → ⊥
 unfolding chars components wire_request reply_in is_aside_reply head_of head_at number_at first_of frames_in rest_in step_of parts_of read_of contexts_of set_of path.components path.after_part name.fault_of name.spelling
 after_a_loss exchanges first count may = false≢true (sym may.whole)
+
+-- a frame into another tree, that a call's program asks all the same
+tree_sent : (w : Bool × Wish) (ws : List (Bool × Wish)) (files : File → Fid) → slice_index (stream.frame (chain (placed (up_to 0 32) (map (request_for facts files) (w ∷ ws))))) 40 ≡ 1
+unfolding header chain bytes_of spelling spelled spelling_of_two unit_bytes numbers usable after_use up_to
+tree_sent w [] files = refl
+tree_sent w (next ∷ others) files = refl
+
+nothing_sent : slice_index (stream.frame (chain (placed (up_to 0 32) []))) 40 ≡ 0
+unfolding chain
+nothing_sent = refl
+
+another_tree : (exchanges : List Exchange) → LeadTo (at_first s) exchanges (Mounted facts) → May s (done exchanges (begins ∷ announces ∷ [])) (event.Sent (set chain_frame 40 2)) → ⊥
+unfolding chars components wire_request reply_in is_aside_reply head_of head_at number_at first_of frames_in rest_in step_of parts_of read_of contexts_of set_of path.components path.after_part name.fault_of name.spelling
+another_tree exchanges mounted may = by may.wishes (subst (λ (f : Facts). set chain_frame 40 2 ≡ stream.frame (chain (placed (up_to 0 32) (map (request_for f (file_id None [])) may.wishes)))) (one_share s (mounted_by exchanges) may.facts facts may.mounted mounted) may.frame_is.spelled)
+  where
+    by : (wishes : List (Bool × Wish)) → set chain_frame 40 2 ≡ stream.frame (chain (placed (up_to 0 32) (map (request_for facts (file_id None [])) wishes))) → ⊥
+    by [] is = two_zero (ap (λ (bytes : List ℕ). slice_index bytes 40) is ∙ nothing_sent)
+    by (w ∷ ws) is = two_one (ap (λ (bytes : List ℕ). slice_index bytes 40) is ∙ tree_sent w ws (file_id None []))
