@@ -19,3 +19,5 @@ pub mod Steps
 pub mod Taken
 pub mod Bodies
 pub mod Mounts
+pub mod SpelledLaws
+pub mod Ids

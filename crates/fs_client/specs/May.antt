@@ -141,6 +141,7 @@ pub record IsEcho (s : Setting) (c : Client) (frame : List ℕ) : Type 0 where
   pub number : ℕ
   pub item : Item
   pub runs : item_with number c.view.items ≡ Some item
+  pub whole : item.broken ≡ false
   pub wish : Wish
   pub waits : StartsWith wish (settled c.view.told.known item.rest)
   pub short : free_ids c < ids_for facts wish
