@@ -1,6 +1,8 @@
 -- What requests in flight are judged by says of the body of a reply what the share machine's reading says: a reply to a CREATE or a CLOSE
--- has no fault exactly where one is read of it, and one to a QUERY_INFO where, had it success, it brings an information besides.
+-- has no fault exactly where one is read of it, and one to a QUERY_INFO whose reply leaves nothing out where, had it success, it brings an
+-- information besides.
 use Rattle.std.proofs.Common.{arith, ◌≡◌, ◌∙◌, refl, sym, ap, ap₂, ℕ, ◌+◌, ◌==◌, Bool, true, false, if◌then◌else◌, not, ◌&&◌, ◌||◌, List, [], ◌∷◌, length, Option, Some, None, Result, Ok, Err, nat_lt, nat_le, is_some, is_none}
+use Rattle.std.specs.Prelude.{is_ok, slice_range}
 use Rattle.std.specs.List.{AllByRecursion}
 use Rattle.std.proofs.lemmas.Bool.{false≢true}
 use Rattle.std.proofs.lemmas.Bool.Decides.{nat_tests}
@@ -9,23 +11,35 @@ use Rattle.smb_head.specs.declared.command.TheConstants.{NEGOTIATE, SESSION_SETU
 use Rattle.smb_field.specs.declared.field.BodyFault.{BodyFault}
 use Rattle.smb_field.specs.declared.field.BodyFault.TheVariants.{Short, Size, Offset}
 use Rattle.smb_field.specs.Body.{end_of_fixed}
+use Rattle.smb_field.specs.Faults.{strays, fault_of, error_fault}
+use Rattle.smb_field.specs.Rows.{lies_behind, part_in, with_part, if_read}
+use Rattle.smb_body_a.specs.Empty.{empty_of}
+use Rattle.smb_body_a.specs.Negotiate.{negotiate_reply_of}
+use Rattle.smb_body_a.specs.Session.{session_setup_reply_of}
+use Rattle.smb_body_a.specs.Tree.{tree_connect_reply_of}
 use Rattle.smb_body_b.specs.declared.contexts.ContextSet.{ContextSet}
+use Rattle.smb_body_b.specs.Close.{close_reply_of}
 use Rattle.smb_body_b.specs.Contexts.{read_of}
+use Rattle.smb_body_b.specs.Create.{CreateReplyValue, create_reply_of}
+use Rattle.smb_body_c.specs.Directory.{buffer_reply_of}
+use Rattle.smb_body_c.specs.Error.{error_reply_of}
 use Rattle.share_spec.specs.declared.request.RepBody.{RepBody}
 use Rattle.share_spec.specs.declared.request.RepBody.TheVariants as body
-use Rattle.smb_mux.specs.Bodies.{strays, fault_of, error_fault, first_fault, contexts_of, contexts_fault, create_fault, buffer_fault, negotiate_fault, session_fault, is_done, reply_fault}
-use Rattle.fs_plain.specs.Wire.{has_body, lies, bytes_at}
-use Rattle.fs_plain.specs.Replies.{is_error, opened_with, opened_in, closed_in, info_in, info_of, reply_of, reply_by_status, is_aside_by_status}
+use Rattle.smb_mux.specs.Bodies.{first_fault, contexts_of, contexts_fault, create_fault, buffer_fault, negotiate_fault, session_fault, is_done, reply_fault}
+use Rattle.fs_plain.specs.Masked.{Untold, Nothing, NumberAndMark, Durability}
+use Rattle.fs_plain.specs.Replies.{is_error, opened_with, opened_in, closed_in, info_in, info_of, is_success, reply_of, reply_by_status, has_aside_body, is_aside_by_status}
 
 -- a body of a size and a variable part
 not_less : (a b : ℕ) → nat_lt a b ≡ not (nat_le b a)
 not_less a b = grind (arith, nat_tests)
 
-kept_within : (behind offset many : ℕ) (message : List ℕ) → not (strays behind offset many message) ≡ (many == 0 || (nat_le behind offset && nat_le (offset + many) (length message)))
-kept_within behind offset many message =
+lies_is : (behind offset many : ℕ) (message : List ℕ) → lies_behind behind offset many message ≡ not (strays behind offset many message)
+lies_is behind offset many message =
+    sym (
     ap (λ (b : Bool). not (not (many == 0) && (b || nat_lt (length message) (offset + many)))) (not_less offset behind)
     ∙ ap (λ (b : Bool). not (not (many == 0) && (not (nat_le behind offset) || b))) (not_less (length message) (offset + many))
     ∙ by (many == 0) (nat_le behind offset) (nat_le (offset + many) (length message))
+    )
   where
     by : (a b c : Bool) → not (not a && (not b || not c)) ≡ (a || (b && c))
     by true b c = refl
@@ -33,49 +47,58 @@ kept_within behind offset many message =
     by false true false = refl
     by false false c = refl
 
-sound_is : (size : ℕ) (stray : Bool) (message : List ℕ) → is_none (fault_of size stray message) ≡ (has_body size message && not stray)
-sound_is size stray message =
-    ap (λ (b : Bool). is_none (if b then Some Short else (if number_at 2 64 message == size then (if stray then Some Offset else None) else Some Size))) (not_less (length message) (end_of_fixed size))
-    ∙ by (nat_le (end_of_fixed size) (length message)) (number_at 2 64 message == size) stray
+-- what reads such a body finds no fault where its row does not: the part does not stray
+sound_is : {X : Type 0} (size : ℕ) (read : Result X BodyFault) (stray : Bool) (message : List ℕ) → is_ok read ≡ not stray
+    → is_ok (if nat_lt (length message) (end_of_fixed size) then Err Short else if number_at 2 64 message == size then read else Err Size) ≡ is_none (fault_of size stray message)
+sound_is size read stray message agree = by (nat_lt (length message) (end_of_fixed size)) (number_at 2 64 message == size)
   where
-    by : (a b c : Bool) → is_none (if not a then Some Short else (if b then (if c then Some Offset else None) else Some Size)) ≡ (a && b && not c)
-    by true true true = refl
-    by true true false = refl
-    by true false c = refl
-    by false b c = refl
+    strayed : (b : Bool) → not b ≡ is_none (if b then Some Offset else None)
+    strayed true = refl
+    strayed false = refl
+
+    by : (a b : Bool) → is_ok (if a then Err Short else if b then read else Err Size)
+        ≡ is_none (if a then Some Short else (if b then (if stray then Some Offset else None) else Some Size))
+    by true b = refl
+    by false true = agree ∙ strayed stray
+    by false false = refl
+
+part_is : {X : Type 0} (behind offset many : ℕ) (message : List ℕ) (read : List ℕ → X)
+    → is_ok (with_part {X = X} Offset (part_in behind offset many message) (λ bytes. Ok (read bytes))) ≡ not (strays behind offset many message)
+unfolding part_in
+part_is {X = X} behind offset many message read = by (lies_behind behind offset many message) ∙ lies_is behind offset many message
+  where
+    by : (b : Bool) → is_ok (with_part {X = X} Offset (if b then Some (slice_range message offset (offset + many)) else None) (λ bytes. Ok (read bytes))) ≡ b
+    by true = refl
+    by false = refl
 
 -- the error body
 error_is : (message : List ℕ) → is_none (error_fault message) ≡ is_error message
+unfolding error_reply_of
 error_is message =
-    sound_is 9 (strays 72 72 (number_at 4 68 message) message) message
-    ∙ ap (λ (b : Bool). has_body 9 message && b) (kept_within 72 72 (number_at 4 68 message) message)
-    ∙ last (number_at 4 68 message) (length message) (number_at 2 64 message == 9)
-  where
-    last : (many size : ℕ) (b : Bool) → ((nat_le 72 size && b) && (many == 0 || (nat_le 72 72 && nat_le (72 + many) size))) ≡ ((nat_le 72 size && b) && nat_le (72 + many) size)
-    last many size true = grind (arith, nat_tests)
-    last many size false = grind (arith, nat_tests)
+    sym (sound_is 9 _ (strays 72 72 (number_at 4 68 message) message) message (part_is 72 72 (number_at 4 68 message) message _))
 
 -- the body of success to a CREATE, with its contexts
-contexts_are : (message : List ℕ) (r : Result ContextSet BodyFault) → is_none (contexts_fault r) ≡ is_some (opened_with message r)
-contexts_are message (Ok set) = refl
-contexts_are message (Err fault) = refl
+contexts_are : (u : Untold) (x : CreateReplyValue) (r : Result ContextSet BodyFault) → is_none (contexts_fault r) ≡ is_some (opened_with u x r)
+contexts_are u x (Ok set) = refl
+contexts_are u x (Err fault) = refl
 
-then_first : (o p : Option BodyFault) → is_none (first_fault o p) ≡ (is_none o && is_none p)
-then_first None p = refl
-then_first (Some fault) p = refl
-
-create_is : (message : List ℕ) → is_none (create_fault message) ≡ is_some (opened_in message)
-create_is message =
-    then_first (fault_of 89 (strays 152 (number_at 4 144 message) (number_at 4 148 message) message) message) (contexts_fault (read_of true (contexts_of message)))
-    ∙ ap₂ (λ (a b : Bool). a && b)
-    (sound_is 89 (strays 152 (number_at 4 144 message) (number_at 4 148 message) message) message
-    ∙ ap (λ (b : Bool). has_body 89 message && b) (kept_within 152 (number_at 4 144 message) (number_at 4 148 message) message))
-    (contexts_are message (read_of true (contexts_of message)))
-    ∙ by (has_body 89 message && lies 89 (number_at 4 144 message) (number_at 4 148 message) message) (opened_with message (read_of true (contexts_of message)))
+create_is : (u : Untold) (message : List ℕ) → is_none (create_fault message) ≡ is_some (opened_in u message)
+unfolding create_reply_of part_in
+create_is u message = by (nat_lt (length message) 152) (number_at 2 64 message == 89) (strays 152 (number_at 4 144 message) (number_at 4 148 message) message)
+    (lies_behind 152 (number_at 4 144 message) (number_at 4 148 message) message) (lies_is 152 (number_at 4 144 message) (number_at 4 148 message) message) _ (λ bytes. refl)
   where
-    by : (t : Bool) (o : Option RepBody) → (t && is_some o) ≡ is_some (if t then o else None)
-    by true o = refl
-    by false o = refl
+    by : (a b stray lies : Bool) → lies ≡ not stray → (value : List ℕ → CreateReplyValue) → ((bytes : List ℕ) → (value bytes).contexts ≡ bytes)
+        → is_none (first_fault (if a then Some Short else (if b then (if stray then Some Offset else None) else Some Size)) (contexts_fault (read_of true (contexts_of message))))
+        ≡ is_some (if_read (if a then Err Short else if b then with_part Offset (if lies then Some (contexts_of message) else None) (λ bytes. Ok (value bytes)) else Err Size)
+        (λ x. opened_with u x (read_of true x.contexts)) None)
+    by true b stray lies is value of = refl
+    by false false stray lies is value of = refl
+    by false true true true is value of = absurd (false≢true (sym is))
+    by false true true false is value of = refl
+    by false true false false is value of = absurd (false≢true is)
+    by false true false true is value of =
+        contexts_are u (value (contexts_of message)) (read_of true (contexts_of message))
+        ∙ ap (λ (l : List ℕ). is_some (opened_with u (value (contexts_of message)) (read_of true l))) (sym (of (contexts_of message)))
 
 -- a reply read of a status
 read_is : (status : ℕ) (o : Option RepBody) → is_some (reply_of status o) ≡ is_some o
@@ -96,10 +119,10 @@ by_status t u message status o fault same agree =
     by true = read_is 0 o ∙ agree
     by false = errors (is_error message) ∙ sym (error_is message)
 
-pub create_agrees : (status : ℕ) (message : List ℕ) → is_some (reply_by_status status CREATE message) ≡ is_none (reply_fault status CREATE message)
-create_agrees status message =
-    by_status (status == 0 || (status == 0x80000005 && false)) (is_done status CREATE) message status (opened_in message) (create_fault message)
-    (done (status == 0) (status == 0x80000005) (status == 0xC0000016)) (sym (create_is message))
+-- a CREATE and a CLOSE have success by one status alone
+success_is : (status command : ℕ) → (command == QUERY_INFO) ≡ false → (command == SESSION_SETUP) ≡ false → (u : Untold) → is_done status command ≡ is_success u status command
+success_is status command query session u =
+    ap₂ (λ (p q : Bool). status == 0 || (status == 0x80000005 && p) || (status == 0xC0000016 && q)) query session ∙ to u
   where
     done : (a b c : Bool) → (a || (b && false) || (c && false)) ≡ (a || (b && false))
     done true b c = refl
@@ -108,75 +131,81 @@ create_agrees status message =
     done false false true = refl
     done false false false = refl
 
-pub close_agrees : (status : ℕ) (message : List ℕ) → is_some (reply_by_status status CLOSE message) ≡ is_none (reply_fault status CLOSE message)
-close_agrees status message =
-    by_status (status == 0 || (status == 0x80000005 && false)) (is_done status CLOSE) message status (closed_in message) (fault_of 60 false message)
-    (done (status == 0) (status == 0x80000005) (status == 0xC0000016)) (by (has_body 60 message) ∙ sym (sound_is 60 false message))
+    alone : (a b c : Bool) → (a || (b && false) || (c && false)) ≡ a
+    alone true b c = refl
+    alone false true true = refl
+    alone false true false = refl
+    alone false false true = refl
+    alone false false false = refl
+
+    whole : (status == 0 || (status == 0x80000005 && false) || (status == 0xC0000016 && false)) ≡ (status == 0 || (status == 0x80000005 && command == QUERY_INFO))
+    whole = done (status == 0) (status == 0x80000005) (status == 0xC0000016) ∙ ap (λ (p : Bool). status == 0 || (status == 0x80000005 && p)) (sym query)
+
+    to : (u : Untold) → (status == 0 || (status == 0x80000005 && false) || (status == 0xC0000016 && false)) ≡ is_success u status command
+    to Nothing = whole
+    to Durability = whole
+    to NumberAndMark = alone (status == 0) (status == 0x80000005) (status == 0xC0000016)
+
+pub create_agrees : (u : Untold) (status : ℕ) (message : List ℕ) → is_some (reply_by_status u status CREATE message) ≡ is_none (reply_fault status CREATE message)
+create_agrees u status message =
+    by_status (is_success u status CREATE) (is_done status CREATE) message status (opened_in u message) (create_fault message) (success_is status CREATE refl refl u) (sym (create_is u message))
+
+close_is : (message : List ℕ) → is_some (closed_in message) ≡ is_none (fault_of 60 false message)
+unfolding close_reply_of
+close_is message = read_some (close_reply_of message) ∙ sound_is 60 _ false message refl
   where
-    done : (a b c : Bool) → (a || (b && false) || (c && false)) ≡ (a || (b && false))
+    read_some : {X : Type 0} (r : Result X BodyFault) → is_some (if_read r (λ x. Some body.None) None) ≡ is_ok r
+    read_some (Ok x) = refl
+    read_some (Err fault) = refl
+
+pub close_agrees : (u : Untold) (status : ℕ) (message : List ℕ) → is_some (reply_by_status u status CLOSE message) ≡ is_none (reply_fault status CLOSE message)
+close_agrees u status message =
+    by_status (is_success u status CLOSE) (is_done status CLOSE) message status (closed_in message) (fault_of 60 false message) (success_is status CLOSE refl refl u) (close_is message)
+
+-- a QUERY_INFO whose reply leaves nothing out has success also where more is known than there was room for
+query_success : (status : ℕ) → is_done status QUERY_INFO ≡ is_success Nothing status QUERY_INFO
+query_success status = done (status == 0) (status == 0x80000005) (status == 0xC0000016)
+  where
+    done : (a b c : Bool) → (a || (b && true) || (c && false)) ≡ (a || (b && true))
     done true b c = refl
     done false true true = refl
     done false true false = refl
     done false false true = refl
     done false false false = refl
 
-    by : (t : Bool) → is_some (if t then Some body.None else None) ≡ (t && true)
-    by true = refl
-    by false = refl
+buffer_is : (message : List ℕ) → is_ok (buffer_reply_of message) ≡ is_none (buffer_fault message)
+unfolding buffer_reply_of
+buffer_is message =
+    sound_is 9 _ (strays 72 (number_at 2 66 message) (number_at 4 68 message) message) message (part_is 72 (number_at 2 66 message) (number_at 4 68 message) message _)
 
 -- a reply to a QUERY_INFO has no fault where it has a buffer; that what stands there is an information is seen when it is read
-pub query_agrees : (status : ℕ) (message : List ℕ) → is_some (info_of (bytes_at (number_at 2 66 message) (number_at 4 68 message) message)) ≡ true
-    → is_some (reply_by_status status QUERY_INFO message) ≡ is_none (reply_fault status QUERY_INFO message)
+pub query_agrees : (status : ℕ) (message : List ℕ) → ((info : List ℕ) → buffer_reply_of message ≡ Ok info → is_some (info_of Nothing info) ≡ true)
+    → is_some (reply_by_status Nothing status QUERY_INFO message) ≡ is_none (reply_fault status QUERY_INFO message)
 query_agrees status message informs =
-    by_status (status == 0 || (status == 0x80000005 && true)) (is_done status QUERY_INFO) message status (info_in message) (buffer_fault message)
-    (done (status == 0) (status == 0x80000005) (status == 0xC0000016))
-    (by (has_body 9 message && lies 9 (number_at 2 66 message) (number_at 4 68 message) message) (info_of (bytes_at (number_at 2 66 message) (number_at 4 68 message) message)) informs
-    ∙ sym (sound_is 9 (strays 72 (number_at 2 66 message) (number_at 4 68 message) message) message ∙ ap (λ (b : Bool). has_body 9 message && b) (kept_within 72 (number_at 2 66 message) (number_at 4 68 message) message)))
+    by_status (is_success Nothing status QUERY_INFO) (is_done status QUERY_INFO) message status (info_in Nothing message) (buffer_fault message) (query_success status)
+    (read (buffer_reply_of message) informs ∙ buffer_is message)
   where
-    done : (a b c : Bool) → (a || (b && true) || (c && false)) ≡ (a || (b && true))
-    done true b c = refl
-    done false true true = refl
-    done false true false = refl
-    done false false true = refl
-    done false false false = refl
-
-    by : (t : Bool) (o : Option RepBody) → is_some o ≡ true → is_some (if t then o else None) ≡ t
-    by true o is = is
-    by false o is = refl
+    read : (r : Result (List ℕ) BodyFault) → ((info : List ℕ) → r ≡ Ok info → is_some (info_of Nothing info) ≡ true) → is_some (if_read r (info_of Nothing) None) ≡ is_ok r
+    read (Ok info) all = all info refl
+    read (Err fault) all = refl
 
 -- a reply that is read of one has no fault
-pub query_read : (status : ℕ) (message : List ℕ) → is_some (reply_by_status status QUERY_INFO message) ≡ true → is_none (reply_fault status QUERY_INFO message) ≡ true
+pub query_read : (status : ℕ) (message : List ℕ) → is_some (reply_by_status Nothing status QUERY_INFO message) ≡ true → is_none (reply_fault status QUERY_INFO message) ≡ true
 query_read status message read =
-    read_by (status == 0 || (status == 0x80000005 && true)) (is_done status QUERY_INFO) (done (status == 0) (status == 0x80000005) (status == 0xC0000016)) read
+    ap (λ (b : Bool). is_none (if b then buffer_fault message else error_fault message)) (query_success status) ∙ by (is_success Nothing status QUERY_INFO) read
   where
-    done : (a b c : Bool) → (a || (b && true) || (c && false)) ≡ (a || (b && true))
-    done true b c = refl
-    done false true true = refl
-    done false true false = refl
-    done false false true = refl
-    done false false false = refl
-
-    there : (t : Bool) (o : Option RepBody) → is_some (if t then o else None) ≡ true → t ≡ true
-    there true o is = refl
-    there false o is = absurd (false≢true is)
-
-    buffer : is_some (info_in message) ≡ true → is_none (buffer_fault message) ≡ true
-    buffer is = sound_is 9 (strays 72 (number_at 2 66 message) (number_at 4 68 message) message) message
-        ∙ ap (λ (b : Bool). has_body 9 message && b) (kept_within 72 (number_at 2 66 message) (number_at 4 68 message) message)
-        ∙ there (has_body 9 message && lies 9 (number_at 2 66 message) (number_at 4 68 message) message) (info_of (bytes_at (number_at 2 66 message) (number_at 4 68 message) message)) is
+    some_ok : (r : Result (List ℕ) BodyFault) → is_some (if_read r (info_of Nothing) None) ≡ true → is_ok r ≡ true
+    some_ok (Ok info) is = refl
+    some_ok (Err fault) is = absurd (false≢true is)
 
     errors : (b : Bool) → is_some (if b then reply_of status (Some body.None) else None) ≡ true → b ≡ true
     errors true is = refl
     errors false is = absurd (false≢true is)
 
-    by : (t : Bool) → is_some (if t then reply_of 0 (info_in message) else if is_error message then reply_of status (Some body.None) else None) ≡ true
+    by : (t : Bool) → is_some (if t then reply_of 0 (info_in Nothing message) else if is_error message then reply_of status (Some body.None) else None) ≡ true
         → is_none (if t then buffer_fault message else error_fault message) ≡ true
-    by true is = buffer (sym (read_is 0 (info_in message)) ∙ is)
+    by true is = sym (buffer_is message) ∙ some_ok (buffer_reply_of message) (sym (read_is 0 (info_in Nothing message)) ∙ is)
     by false is = error_is message ∙ errors (is_error message) is
-
-    read_by : (t u : Bool) → u ≡ t → is_some (if t then reply_of 0 (info_in message) else if is_error message then reply_of status (Some body.None) else None) ≡ true
-        → is_none (if u then buffer_fault message else error_fault message) ≡ true
-    read_by t u same is = ap (λ (b : Bool). is_none (if b then buffer_fault message else error_fault message)) same ∙ by t is
 
 -- the same of a reply to the connection itself
 aside_by : (t u : Bool) (b : Bool) (fault : Option BodyFault) (message : List ℕ) → u ≡ t → b ≡ is_none fault
@@ -187,30 +216,37 @@ aside_by t u b fault message same agree = by t ∙ sym (ap (λ (v : Bool). is_no
     by true = agree
     by false = sym (error_is message)
 
-part_is : (size at many : ℕ) (message : List ℕ) → (has_body size message && lies size at many message) ≡ is_none (fault_of size (strays (end_of_fixed size) at many message) message)
-part_is size at many message =
-    sym (sound_is size (strays (end_of_fixed size) at many message) message ∙ ap (λ (b : Bool). has_body size message && b) (kept_within (end_of_fixed size) at many message))
+negotiate_is : (message : List ℕ) → is_ok (negotiate_reply_of message) ≡ is_none (negotiate_fault message)
+unfolding negotiate_reply_of
+negotiate_is message =
+    sound_is 65 _ (strays 128 (number_at 2 120 message) (number_at 2 122 message) message) message (part_is 128 (number_at 2 120 message) (number_at 2 122 message) message _)
 
-fixed_is : (size : ℕ) (message : List ℕ) → has_body size message ≡ is_none (fault_of size false message)
-fixed_is size message = by (has_body size message) ∙ sym (sound_is size false message)
-  where
-    by : (b : Bool) → b ≡ (b && true)
-    by true = refl
-    by false = refl
+session_is : (message : List ℕ) → is_ok (session_setup_reply_of message) ≡ is_none (session_fault message)
+unfolding session_setup_reply_of
+session_is message =
+    sound_is 9 _ (strays 72 (number_at 2 68 message) (number_at 2 70 message) message) message (part_is 72 (number_at 2 68 message) (number_at 2 70 message) message _)
+
+tree_is : (message : List ℕ) → is_ok (tree_connect_reply_of message) ≡ is_none (fault_of 16 false message)
+unfolding tree_connect_reply_of
+tree_is message = sound_is 16 _ false message refl
+
+empty_is : (message : List ℕ) → is_ok (empty_of message) ≡ is_none (fault_of 4 false message)
+unfolding empty_of
+empty_is message = sound_is 4 _ false message refl
 
 abbrev Agrees : ℕ → Type 0
 Agrees command = (status : ℕ) (message : List ℕ) → is_aside_by_status status command message ≡ is_none (reply_fault status command message)
 
 pub asides_agree : AllByRecursion Agrees (NEGOTIATE ∷ SESSION_SETUP ∷ TREE_CONNECT ∷ LOGOFF ∷ TREE_DISCONNECT ∷ ECHO ∷ [])
 asides_agree = (
-  λ status message. aside_by (status == 0 || (status == 0xC0000016 && false)) (is_done status NEGOTIATE) (has_body 65 message && lies 65 (number_at 2 120 message) (number_at 2 122 message) message) (negotiate_fault message) message
-      (done (status == 0) (status == 0x80000005) (status == 0xC0000016) false) (part_is 65 (number_at 2 120 message) (number_at 2 122 message) message),
+  λ status message. aside_by (status == 0 || (status == 0xC0000016 && false)) (is_done status NEGOTIATE) (has_aside_body NEGOTIATE message) (negotiate_fault message) message
+      (done (status == 0) (status == 0x80000005) (status == 0xC0000016) false) (negotiate_is message),
   (
-    λ status message. aside_by (status == 0 || (status == 0xC0000016 && true)) (is_done status SESSION_SETUP) (has_body 9 message && lies 9 (number_at 2 68 message) (number_at 2 70 message) message) (session_fault message) message
-        (done (status == 0) (status == 0x80000005) (status == 0xC0000016) true) (part_is 9 (number_at 2 68 message) (number_at 2 70 message) message),
+    λ status message. aside_by (status == 0 || (status == 0xC0000016 && true)) (is_done status SESSION_SETUP) (has_aside_body SESSION_SETUP message) (session_fault message) message
+        (done (status == 0) (status == 0x80000005) (status == 0xC0000016) true) (session_is message),
     (
-      λ status message. aside_by (status == 0 || (status == 0xC0000016 && false)) (is_done status TREE_CONNECT) (has_body 16 message) (fault_of 16 false message) message
-          (done (status == 0) (status == 0x80000005) (status == 0xC0000016) false) (fixed_is 16 message),
+      λ status message. aside_by (status == 0 || (status == 0xC0000016 && false)) (is_done status TREE_CONNECT) (has_aside_body TREE_CONNECT message) (fault_of 16 false message) message
+          (done (status == 0) (status == 0x80000005) (status == 0xC0000016) false) (tree_is message),
       (
         λ status message. empty status message,
         (
@@ -230,7 +266,7 @@ asides_agree = (
     done false true c d = refl
     done false false c d = refl
 
-    empty : (status : ℕ) (message : List ℕ) → (if status == 0 || (status == 0xC0000016 && false) then has_body 4 message else is_error message)
+    empty : (status : ℕ) (message : List ℕ) → (if status == 0 || (status == 0xC0000016 && false) then is_ok (empty_of message) else is_error message)
         ≡ is_none (if status == 0 || (status == 0x80000005 && false) || (status == 0xC0000016 && false) then fault_of 4 false message else error_fault message)
-    empty status message = aside_by (status == 0 || (status == 0xC0000016 && false)) (status == 0 || (status == 0x80000005 && false) || (status == 0xC0000016 && false)) (has_body 4 message) (fault_of 4 false message) message
-        (done (status == 0) (status == 0x80000005) (status == 0xC0000016) false) (fixed_is 4 message)
+    empty status message = aside_by (status == 0 || (status == 0xC0000016 && false)) (status == 0 || (status == 0x80000005 && false) || (status == 0xC0000016 && false)) (is_ok (empty_of message)) (fault_of 4 false message) message
+        (done (status == 0) (status == 0x80000005) (status == 0xC0000016) false) (empty_is message)

@@ -17,6 +17,7 @@ use Rattle.share_spec.specs.Reply.{map_fid}
 use Rattle.share_spec.specs.Sent.{behind_create}
 use Rattle.smb_link.specs.Program.{File, Wish, Program, Known, Ask, settled}
 use Rattle.fs_plain.specs.Paired.{open_given}
+use Rattle.fs_plain.specs.Masked.{Untold, untold}
 use Rattle.fs_plain.specs.Requests.{WireRequest, wire_request}
 use Rattle.fs_plain.specs.Taken.{wish_of}
 use Rattle.fs_plain.specs.World.{is_creating, refusal_before, came_to}
@@ -48,11 +49,12 @@ flies_one files known frame p fids x wanted at not_refused asks wants =
     (subst (λ (b : Bool). MatchBool b (FliesAs files known frame (λ y. y) p fids []) (AsksNext files x fids (settled known p) (λ rest reply. FliesAs files known frame (λ y. behind_it x reply y) rest (fids_after reply fids) []))) (sym not_refused)
     (asks_wanted files known x p fids wanted (λ rest. Unit {0}) _ wants asks (λ rest reply fit going. flies_none files known frame (λ y. behind_it x reply y) rest (fids_after reply fids))))
 
--- a request that is related to a CREATE before it and makes none itself
+-- a request that is related to a CREATE before it and makes none itself, and whose reply leaves nothing out
 pub record IsRelated (frame : Mid) (x : Sent) (request : Req) : Type 0 where
   pub at : (x.frame.0 == frame.0) ≡ true
   pub asks : wire_request x.message ≡ Some (WireRequest.Share true request)
   pub plain : is_creating request ≡ false
+  pub whole : untold x.message ≡ Untold.Nothing
 
 -- what holds of the open that a reply gives
 abbrev pub IfOpened : RepBody → (Fid → Type 0) → Type 0
@@ -88,7 +90,7 @@ refused_behind frame y request status r =
 
 -- behind one that gave an open it asks for that one
 asks_behind : (frame : Mid) (y : Sent) (request : Req) (fid : Fid) → IsRelated frame y request → Asks (record y { last_create = last.Opened fid }) (map_fid (λ own. fid) request)
-asks_behind frame y request fid r = subst (λ (w : Option WireRequest). AsksAs w (last.Opened fid) (map_fid (λ own. fid) request)) (sym r.asks) refl
+asks_behind frame y request fid r = (subst (λ (w : Option WireRequest). AsksAs w (last.Opened fid) (map_fid (λ own. fid) request)) (sym r.asks) refl, r.whole)
 
 kept_behind : (frame : Mid) (y : Sent) (request : Req) (fid : Fid) → IsRelated frame y request → is_refused (record y { last_create = last.Opened fid }) ≡ false
 kept_behind frame y request fid r =

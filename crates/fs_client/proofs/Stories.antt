@@ -29,6 +29,14 @@ use Rattle.smb_mount.specs.Requests.{unit_bytes}
 use Rattle.smb_body_b.specs.Contexts.{read_of, contexts_of, set_of}
 use Rattle.smb_names.specs.Path as path
 use Rattle.smb_names.specs.WireName as name
+use Rattle.smb_field.specs.Rows.{part_in}
+use Rattle.smb_body_b.specs.Close.{close_request_of, close_reply_of}
+use Rattle.smb_body_b.specs.Create.{create_request_of, create_reply_of}
+use Rattle.smb_body_c.specs.Directory.{buffer_reply_of}
+use Rattle.smb_body_c.specs.Error.{error_reply_of}
+use Rattle.smb_body_c.specs.Info.{query_info_request_of}
+use Rattle.smb_info.specs.Attributes.{all_of}
+use Rattle.fs_plain.specs.Masked.{untold}
 use Rattle.fs_plain.specs.Requests.{wire_request}
 use Rattle.fs_plain.specs.Replies.{reply_in, is_aside_reply}
 use Rattle.fs_plain.specs.World.{waiting, requests_in}
@@ -79,11 +87,11 @@ waits first part = waiting (mid first) part
 
 -- a stat's chain is what its program asks
 of_stat : (i : Item) (known : Known) → FliesAs (files_of i []) known (mid 0) (λ x. x) (program_of options [] (call.Stat (codes "/"))) [] (requests_in chain_frame)
-unfolding wire_request reply_in is_aside_reply head_of head_at number_at first_of frames_in rest_in step_of parts_of read_of contexts_of set_of path.components path.after_part name.fault_of name.spelling
+unfolding wire_request reply_in is_aside_reply head_of head_at number_at first_of frames_in rest_in step_of parts_of read_of contexts_of set_of path.components path.after_part name.fault_of name.spelling untold create_request_of close_request_of query_info_request_of part_in create_reply_of close_reply_of buffer_reply_of error_reply_of all_of
 of_stat i known = flies_three (files_of i []) known (mid 0) (program_of options [] (call.Stat (codes "/"))) []
     (waits 0 (take 128 (drop 4 chain_frame))) (waits 0 (take 112 (drop 132 chain_frame))) (waits 0 (drop 244 chain_frame))
-    (req.Create [] 0x100080 7 1 0 0x80 None false) (req.Query every_bit) (req.Close every_bit) refl refl refl refl
-    (record { at = refl; asks = refl; plain = refl }) (record { at = refl; asks = refl; plain = refl })
+    (req.Create [] 0x100080 7 1 0 0x80 None false) (req.Query every_bit) (req.Close every_bit) refl refl refl (refl, refl)
+    (record { at = refl; asks = refl; plain = refl; whole = refl }) (record { at = refl; asks = refl; plain = refl; whole = refl })
     (stat_wants_three i [] options known (program_of options [] (call.Stat (codes "/"))) [] every_bit every_bit refl)
 
 -- a chain of three: a stat of the root in one frame, whose replies come in two
@@ -121,7 +129,7 @@ a_stat = record {
 }
 
 a_chain_of_three : (exchanges : List Exchange) → LeadTo (at_first s) exchanges (Mounted facts) → Allowed s (mounted_by exchanges) of_a_chain
-unfolding wire_request reply_in is_aside_reply head_of head_at number_at first_of frames_in rest_in step_of parts_of read_of contexts_of set_of path.components path.after_part name.fault_of name.spelling
+unfolding wire_request reply_in is_aside_reply head_of head_at number_at first_of frames_in rest_in step_of parts_of read_of contexts_of set_of path.components path.after_part name.fault_of name.spelling untold create_request_of close_request_of query_info_request_of part_in create_reply_of close_reply_of buffer_reply_of error_reply_of all_of
     header chain bytes_of spelling spelled spelling_of_two unit_bytes numbers usable after_use up_to
 a_chain_of_three exchanges mounted = (
   record { facts = facts; mounted = mounted; connected = refl; there = refl; above = refl; lane_free = refl; going = refl; prompt = tt },
@@ -177,11 +185,11 @@ crossed =
     ∷ event.Marked (mark.Answer 1 a_directory) ∷ []
 
 of_other : (i : Item) (known : Known) → FliesAs (files_of i []) known (mid 3) (λ x. x) (program_of options [] (call.Stat (codes "/b"))) [] (requests_in (numbered 3 missing_chain_frame))
-unfolding chars wire_request reply_in is_aside_reply head_of head_at number_at first_of frames_in rest_in step_of parts_of read_of contexts_of set_of path.components path.after_part name.fault_of name.spelling
+unfolding chars wire_request reply_in is_aside_reply head_of head_at number_at first_of frames_in rest_in step_of parts_of read_of contexts_of set_of path.components path.after_part name.fault_of name.spelling untold create_request_of close_request_of query_info_request_of part_in create_reply_of close_reply_of buffer_reply_of error_reply_of all_of
 of_other i known = flies_three (files_of i []) known (mid 3) (program_of options [] (call.Stat (codes "/b"))) []
     (waits 3 (take 128 (drop 4 (numbered 3 missing_chain_frame)))) (waits 3 (take 112 (drop 132 (numbered 3 missing_chain_frame)))) (waits 3 (drop 244 (numbered 3 missing_chain_frame)))
-    (req.Create (codes "b") 0x100080 7 1 0 0x80 None false) (req.Query every_bit) (req.Close every_bit) refl refl refl refl
-    (record { at = refl; asks = refl; plain = refl }) (record { at = refl; asks = refl; plain = refl })
+    (req.Create (codes "b") 0x100080 7 1 0 0x80 None false) (req.Query every_bit) (req.Close every_bit) refl refl refl (refl, refl)
+    (record { at = refl; asks = refl; plain = refl; whole = refl }) (record { at = refl; asks = refl; plain = refl; whole = refl })
     (stat_wants_three i [] options known (program_of options [] (call.Stat (codes "/b"))) (codes "b") every_bit every_bit refl)
 
 abbrev pub other_stat : Item
@@ -191,7 +199,7 @@ six_granted : 6 ≤ 32
 six_granted = omega arith
 
 two_lanes : (exchanges : List Exchange) → LeadTo (at_first s) exchanges (Mounted facts) → Allowed s (mounted_by exchanges) crossed
-unfolding chars wire_request reply_in is_aside_reply head_of head_at number_at first_of frames_in rest_in step_of parts_of read_of contexts_of set_of path.components path.after_part name.fault_of name.spelling
+unfolding chars wire_request reply_in is_aside_reply head_of head_at number_at first_of frames_in rest_in step_of parts_of read_of contexts_of set_of path.components path.after_part name.fault_of name.spelling untold create_request_of close_request_of query_info_request_of part_in create_reply_of close_reply_of buffer_reply_of error_reply_of all_of
     header chain bytes_of spelling spelled spelling_of_two unit_bytes numbers usable after_use up_to
 two_lanes exchanges mounted = (
   record { facts = facts; mounted = mounted; connected = refl; there = refl; above = refl; lane_free = refl; going = refl; prompt = tt },

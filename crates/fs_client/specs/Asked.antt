@@ -5,6 +5,7 @@ use Rattle.share_spec.specs.declared.connection.Sent.{Sent}
 use Rattle.share_spec.specs.declared.request.Rep.{Rep}
 use Rattle.share_spec.specs.declared.request.Req.{Req}
 use Rattle.share_spec.specs.Sent.{behind_create, sent_but}
+use Rattle.fs_plain.specs.Masked.{Untold, untold}
 use Rattle.fs_plain.specs.Requests.{WireRequest, wire_request}
 use Rattle.fs_plain.specs.World.{resolved, refused_before, is_creating, came_to}
 use Rattle.fs_plain.specs.Paired.{open_given}
@@ -33,8 +34,9 @@ AsksAs None before wanted = ⊥
 AsksAs (Some WireRequest.Aside) before wanted = ⊥
 AsksAs (Some (WireRequest.Share related request)) before wanted = resolved related before request ≡ wanted
 
+-- and its reply leaves nothing out
 abbrev pub Asks : Sent → Req → Type 0
-Asks x wanted = AsksAs (wire_request x.message) x.last_create wanted
+Asks x wanted = AsksAs (wire_request x.message) x.last_create wanted × (untold x.message ≡ Untold.Nothing)
 
 -- a reply can be one to it: it gives an open exactly where a CREATE had success
 abbrev pub fits : Sent → Rep → Bool
