@@ -207,3 +207,29 @@ ours_kept opens (l ∷ ls) none =
 pub close_ours : (found : Option Open) (s : Share) → HasNoLeaseOfOurs s → HasNoLeaseOfOurs (close_open found s).1
 close_ours None s none = none
 close_ours (Some o) s none = ours_kept (closed o s).opens s.leases none
+
+-- what is alike hangs on the plain share, the pairs and the opens that are kept, and on nothing else of the plain side
+pub alike_calls : (s : Share) (p q : PlainSide) → q.plain ≡ p.plain → q.pairs ≡ p.pairs → q.kept ≡ p.kept → Alike s p → Alike s q
+unfolding Alike
+alike_calls s p q plain pairs kept old = record {
+  tree = plain ∙ old.tree;
+  standing = old.standing;
+  pairs = subst (λ (l : List Pair). AreSame (map numbers l) s.opens_made) (sym pairs) old.pairs;
+  kept = kept ∙ old.kept;
+}
+
+-- the number 0 names no open, on either share
+pub alike_none : (s : Share) (p : PlainSide) → Alike s p → plain_of_real p.pairs 0 ≡ 0
+unfolding Alike
+alike_none s p old = plain_number p.pairs 0 ∙ old.pairs.none
+
+-- each open of the plain share has a number of its own that was given, and is connected
+pub alike_stands : (s : Share) (p : PlainSide) → Alike s p → AreStanding p.plain
+unfolding Alike
+alike_stands s p old = subst AreStanding (sym old.tree) old.standing
+
+-- where no open of this client stands on the plain share, none does on the real one
+pub alike_closed : (s : Share) (p : PlainSide) → Alike s p → list_all (λ (o : Open). not (o.who.0 == 0)) p.plain.opens ≡ true
+    → list_all (λ (o : Open). not (o.who.0 == 0)) s.opens ≡ true
+unfolding Alike
+alike_closed s p old none = sym (ap (λ (t : Share). list_all (λ (o : Open). not (o.who.0 == 0)) t.opens) old.tree) ∙ none

@@ -15,7 +15,8 @@ use Rattle.fs_plain.specs.Differences.{is_right_begin, after_begin, is_right_for
 use Rattle.fs_plain.specs.View.{Item, Flight, View, same_flying, item_with, ran, IsNext, IsItems, Belongs, BelongsTo, new_item, with_item, announce, with_announced}
 use Rattle.fs_plain.specs.Related.{Related, IsOther, AreDistinct, IsNamed}
 use Rattle.fs_plain.proofs.Every.{every-snoc, every-more}
-use Rattle.fs_plain.proofs.Tidying.{program_tidies, begun_tidy, announced_tidy}
+use Rattle.fs_plain.proofs.Programs.{program_tidies}
+use Rattle.fs_plain.proofs.Tidying.{begun_tidy, announced_tidy}
 
 map_snoc : (coming : List Owed) (items : List Item) (i : Item) → map (ran coming) (items ++ i ∷ []) ≡ map (ran coming) items ++ ran coming i ∷ []
 map_snoc coming [] i = refl

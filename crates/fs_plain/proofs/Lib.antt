@@ -18,6 +18,7 @@ pub mod Sending
 pub mod Getting
 pub mod Ending
 pub mod Cutting
+pub mod Programs
 pub mod Tidying
 pub mod Clearing
 pub mod Moves
@@ -25,3 +26,4 @@ pub mod Leading
 pub mod Leaving
 pub mod AlikeLaws
 pub mod Whole
+pub mod ShareLaws

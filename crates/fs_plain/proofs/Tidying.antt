@@ -1,16 +1,11 @@
 -- Running calls still close the opens that they made, whatever they do.
 use Rattle.std.proofs.Common.{rules, ◌≡◌, ℕ, zero, suc, true, false, [], ◌∷◌, ◌++◌, ◌+◌, ◌<◌, refl, ap, sym, subst, ◌∙◌, inl, inr, None, Some, List, Option, Bool, ◌==◌, not, if◌then◌else◌, get_or}
-use Rattle.std.specs.Prelude.{map, length, nat_lt, Result, Ok, Err}
+use Rattle.std.specs.Prelude.{map, length}
 use Rattle.std.specs.List.{AllByRecursion}
 use Rattle.std.proofs.lemmas.List.{length-append}
 use Rattle.std.proofs.lemmas.Bool.{false≢true}
 use Rattle.std.proofs.lemmas.Bool.Decides.{eqb_tells}
-use Rattle.smb_names.specs.declared.fault.NameFault.{NameFault}
-use Rattle.smb_names.specs.Path.{components, path_of}
 use Rattle.fs_types.specs.declared.answer.Answer.{Answer}
-use Rattle.fs_types.specs.declared.call.Call.{Call}
-use Rattle.fs_types.specs.declared.call.Call.TheVariants as call
-use Rattle.fs_types.specs.declared.options.Options.{Options}
 use Rattle.share_spec.specs.declared.connection.Grant.{Grant}
 use Rattle.share_spec.specs.declared.create.Wanted.{Wanted}
 use Rattle.share_spec.specs.declared.opens.Open.{Open}
@@ -22,9 +17,7 @@ use Rattle.share_spec.specs.Close.{open_of, close_open}
 use Rattle.share_spec.specs.Query.{query_open}
 use Rattle.share_spec.specs.Step.{step_of}
 use Rattle.share_spec.specs.PlainShare.{shown}
-use Rattle.smb_link.specs.Program.{Own, Named, Wish, Open as Opening, Query, Close, Program, Ask, Say, map_of, of_refusal, of_errno, unless_refused, at_path}
-use Rattle.smb_link.specs.Stat.{stat_answer, stat_once_open}
-use Rattle.smb_link.specs.Calls.{program_of}
+use Rattle.smb_link.specs.Program.{Own, Named, Wish, Open as Opening, Query, Close, Program, Ask, Say}
 use Rattle.fs_plain.specs.World.{us}
 use Rattle.fs_plain.specs.Replay.{Running, opened_number, running_with, running_but, with_running}
 use Rattle.fs_plain.specs.Taken.{plain_file, plain_fid, wished_attributes, wish_of, with_opened}
@@ -33,56 +26,6 @@ use Rattle.fs_plain.specs.Tidy.{closes, WillClose, Tidies, IsTidy, Closes, SomeC
 use Rattle.fs_plain.specs.Related.{IsStanding}
 use Rattle.fs_plain.proofs.Every.{every-snoc, every-filter, every-more, every-both}
 use Rattle.fs_plain.proofs.Opens.{Creates, IsGone, create_creates, close_every, query_every, closed_gone}
-
--- the program of each call closes what it opens: stat does by its CLOSE, and no other opens anything
-once_open_tidies : (options : Options) (opened : Rep)
-    → ((opened.status.0 == 0) ≡ true → WillClose 0 (stat_once_open options opened) × Tidies 1 (stat_once_open options opened))
-    × ((opened.status.0 == 0) ≡ false → Tidies 0 (stat_once_open options opened))
-once_open_tidies options opened = by (opened.status.0 == 0)
-  where
-    by : (t : Bool)
-        → (t ≡ true → WillClose 0 (if t then Ask (Query (Own 0)) (λ info. Ask (Close (Own 0)) (λ closed. Say (stat_answer options info))) else Say (of_refusal opened.status))
-        × Tidies 1 (if t then Ask (Query (Own 0)) (λ info. Ask (Close (Own 0)) (λ closed. Say (stat_answer options info))) else Say (of_refusal opened.status)))
-        × (t ≡ false → Tidies 0 (if t then Ask (Query (Own 0)) (λ info. Ask (Close (Own 0)) (λ closed. Say (stat_answer options info))) else Say (of_refusal opened.status)))
-    by true = (λ is. (inr (λ info. inl refl), λ info closed. record {}), λ is. absurd (false≢true (sym is)))
-    by false = (λ is. absurd (false≢true is), λ is. record {})
-
-at_path_tidies : (options : Options) (path : List ℕ) (program : List ℕ → Program) → ((wire : List ℕ) → Tidies 0 (program wire)) → Tidies 0 (at_path options path program)
-at_path_tidies options path program tidies = by (nat_lt 4095 (length path)) (path_of (map_of options) (components path))
-  where
-    by : (t : Bool) (wire : Result (List ℕ) NameFault) → Tidies 0 (if t then Say (of_errno 36) else unless_refused wire program)
-    by true wire = record {}
-    by false (Ok wire) = tidies wire
-    by false (Err fault) = record {}
-
-pub program_tidies : (options : Options) (seed : List ℕ) (c : Call) → Tidies 0 (program_of options seed c)
-program_tidies options seed (call.Stat path) =
-    at_path_tidies options path (λ wire. Ask (Opening wire 0x100080 1 0) (stat_once_open options)) (λ wire reply. once_open_tidies options reply)
-program_tidies options seed (call.Open a b) = record {}
-program_tidies options seed (call.Dup a) = record {}
-program_tidies options seed (call.Close a) = record {}
-program_tidies options seed (call.Fsync a) = record {}
-program_tidies options seed (call.Ftruncate a b) = record {}
-program_tidies options seed (call.Pread a b c) = record {}
-program_tidies options seed (call.Read a b) = record {}
-program_tidies options seed (call.Pwrite a b c) = record {}
-program_tidies options seed (call.Write a b) = record {}
-program_tidies options seed (call.Append a b) = record {}
-program_tidies options seed (call.Seek a b) = record {}
-program_tidies options seed (call.Fstat a) = record {}
-program_tidies options seed (call.Lstat a) = record {}
-program_tidies options seed (call.Unlink a) = record {}
-program_tidies options seed (call.Rmdir a) = record {}
-program_tidies options seed (call.Mkdir a) = record {}
-program_tidies options seed (call.Rename a b) = record {}
-program_tidies options seed (call.Link a b) = record {}
-program_tidies options seed (call.Symlink a b) = record {}
-program_tidies options seed (call.Readlink a) = record {}
-program_tidies options seed (call.List a) = record {}
-program_tidies options seed (call.Chmod a b) = record {}
-program_tidies options seed (call.Lock a b c d) = record {}
-program_tidies options seed (call.Unlock a b c) = record {}
-program_tidies options seed call.Statfs = record {}
 
 -- the opens are still to be closed where the calls change and each closes what it closed before
 still_closed : (running running' : List Running) → ((o : Open) → SomeCloses o running → SomeCloses o running') → (o : Open) → IsToBeClosed running o → IsToBeClosed running' o
