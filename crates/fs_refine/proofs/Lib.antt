@@ -14,3 +14,4 @@ pub mod Connections
 pub mod Kept
 pub mod Ends
 pub mod BrokenOff
+mod Chained
