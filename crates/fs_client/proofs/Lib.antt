@@ -21,3 +21,4 @@ pub mod Bodies
 pub mod Mounts
 pub mod SpelledLaws
 pub mod Ids
+mod Unmarked
