@@ -22,3 +22,4 @@ pub mod Mounts
 pub mod SpelledLaws
 pub mod Ids
 mod Unmarked
+pub mod Judging
