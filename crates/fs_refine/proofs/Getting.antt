@@ -10,7 +10,7 @@ use Rattle.smb_head.specs.declared.head.Head.{Head}
 use Rattle.smb_head.specs.declared.head.HeadFault.{HeadFault}
 use Rattle.smb_head.specs.declared.head.HeadFault.TheVariants.{Short, Magic, Size}
 use Rattle.smb_head.specs.declared.head.TheConstants.{PROTOCOL}
-use Rattle.smb_head.specs.Header.{head_of, head_at}
+use Rattle.smb_head.specs.Header.{head_of, head_at, is_interim}
 use Rattle.smb_head.specs.Stream.{frames_in, rest_in}
 use Rattle.share_spec.specs.declared.connection.Owed.{Owed}
 use Rattle.share_spec.specs.declared.connection.Owed.TheVariants as owed
@@ -21,7 +21,7 @@ use Rattle.share_spec.specs.State.{has}
 use Rattle.smb_link.specs.declared.event.Event.TheVariants as event
 use Rattle.fs_plain.specs.Masked.{untold, masked}
 use Rattle.fs_plain.specs.Requests.{WireRequest, wire_request}
-use Rattle.fs_plain.specs.Replies.{command_of, answers, is_interim, is_error, reply_by_status, reply_with, reply_in, interim_with, is_interim_of, is_aside_by_status, aside_with, is_aside_reply, Pays}
+use Rattle.fs_plain.specs.Replies.{command_of, answers, is_error, reply_by_status, reply_with, reply_in, interim_with, is_interim_of, is_aside_by_status, aside_with, is_aside_reply, Pays}
 use Rattle.share_spec.specs.Sent.{sent_with}
 use Rattle.fs_plain.specs.World.{mid_of, messages_in, messages_got, after_got}
 use Rattle.fs_plain.specs.Honest.{ArePaid, MayGet}
