@@ -72,7 +72,7 @@ part_is {X = X} behind offset many message read = by (lies_behind behind offset 
     by false = refl
 
 -- the error body
-error_is : (message : List ℕ) → is_none (error_fault message) ≡ is_error message
+pub error_is : (message : List ℕ) → is_none (error_fault message) ≡ is_error message
 unfolding error_reply_of
 error_is message =
     sym (sound_is 9 _ (strays 72 72 (number_at 4 68 message) message) message (part_is 72 72 (number_at 4 68 message) message _))

@@ -54,6 +54,7 @@ pub record IsKept (R : View → View → Type 0) : Type 0 where
   pub on : (u v : View) (x : Sent) (reply : Rep) → Sane u → R u v → InTurn u.flights x reply → R (went x reply u) (went x reply v)
   pub turn : (u v : View) (x : Sent) (reply : Rep) → Sane u → R u v → InTurn u.flights x reply → InTurn v.flights x reply
   pub owner : (u v : View) (x : Sent) (reply : Rep) → Sane u → R u v → InTurn u.flights x reply → owner_of x.mid v.told.owners ≡ owner_of x.mid u.told.owners
+  pub found : (u v : View) (mid : Mid) (x : Sent) → R u v → sent_with mid u.flights ≡ Some x → sent_with mid v.flights ≡ Some x
 
 -- what a client has once all was looked at
 pub record Along (R : View → View → Type 0) (os : List Owed) (u v : View) : Type 0 where
@@ -81,7 +82,11 @@ pub along : (R : View → View → Type 0) → IsKept R → (os : List Owed) (u 
 along R kept [] u v sane none none' related due = record { related = related; due = record {}; sane = sane; none = none }
 along R kept (owed.Interim mid request ∷ os) u v sane none none' related due =
     let rest = along R kept os u v sane none none' related due.1 in
-    record { related = rest.related; due = (record {}, rest.due); sane = rest.sane; none = rest.none }
+    record { related = rest.related; due = (by (sent_with mid u.flights) refl due.0, rest.due); sane = rest.sane; none = rest.none }
+  where
+    by : (o : Option Sent) → sent_with mid u.flights ≡ o → IsSomeAnd o (λ (x : Sent). x.message ≡ request) → IsSomeAnd (sent_with mid v.flights) (λ (x : Sent). x.message ≡ request)
+    by None there is = absurd is
+    by (Some x) there is = subst (λ (o : Option Sent). IsSomeAnd o (λ (y : Sent). y.message ≡ request)) (sym (kept.found u v mid x related there)) is
 along R kept (owed.Reply mid request reply ∷ os) u v sane none none' related due =
     by (sent_with mid u.flights) refl due.0 due.1 (λ u' v' sane' early early' related' due'. along R kept os u' v' sane' early early' related' due')
   where

@@ -8,7 +8,7 @@ use Rattle.std.proofs.lemmas.Bool.Decides.{eqb_tells}
 use Rattle.smb_base.specs.declared.names.Mid.{Mid}
 use Rattle.share_spec.specs.declared.connection.Sent.{Sent}
 use Rattle.share_spec.specs.declared.request.Rep.{Rep}
-use Rattle.share_spec.specs.Sent.{sent_but}
+use Rattle.share_spec.specs.Sent.{sent_but, sent_with}
 use Rattle.smb_link.specs.Program.{Known}
 use Rattle.fs_plain.specs.Replay.{Owner, owner_of}
 use Rattle.fs_plain.specs.Told.{Told, Announcement}
@@ -57,6 +57,7 @@ changed_kept H C t on same = record {
   };
   turn = λ u v x reply sane r turn. subst (λ (w : View). InTurn w.flights x reply) (sym r.is) turn;
   owner = λ u v x reply sane r turn. ap (λ (w : View). owner_of x.mid w.told.owners) r.is ∙ ap (owner_of x.mid) r.owners;
+  found = λ u v mid x r there. ap (λ (w : View). sent_with mid w.flights) r.is ∙ there;
 }
 
 -- no more is asked of the view
@@ -84,6 +85,7 @@ got_kept bytes t = record {
   };
   turn = λ u v x reply sane r turn. subst (λ (w : View). InTurn w.flights x reply) (sym r.is) turn;
   owner = λ u v x reply sane r turn. ap (λ (w : View). owner_of x.mid w.told.owners) r.is ∙ ap (owner_of x.mid) r.owners;
+  found = λ u v mid x r there. ap (λ (w : View). sent_with mid w.flights) r.is ∙ there;
 }
 
 -- a call begins
@@ -279,4 +281,5 @@ send_kept announced frame xs next t = record {
   });
   owner = λ u v x reply sane r turn.
       ap (λ (w : View). owner_of x.mid w.told.owners) r.is ∙ (found (IsFar announced xs u.told.owners t.owners) x.mid u.flights x turn.there r.far).0.owner;
+  found = λ u v mid x r there. ap (λ (w : View). sent_with mid w.flights) r.is ∙ found_append mid u.flights xs x there;
 }

@@ -40,7 +40,7 @@ pub record IsDueAside (v : View) (request : List ℕ) (x : Sent) : Type 0 where
 
 -- what is owed is for requests in flight; no notice is, since there is no lease
 abbrev pub IsDue : View → Owed → Type 0
-IsDue v (owed.Interim mid request) = Unit {0}
+IsDue v (owed.Interim mid request) = IsSomeAnd (sent_with mid v.flights) (λ (x : Sent). x.message ≡ request)
 IsDue v (owed.Reply mid request reply) = IsSomeAnd (sent_with mid v.flights) (IsDueTo v request reply)
 IsDue v (owed.Aside mid request) = IsSomeAnd (sent_with mid v.flights) (IsDueAside v request)
 IsDue v (owed.Notice key state wanted) = ⊥
