@@ -254,6 +254,7 @@ holds_kept h t = record {
   };
   turn = λ u w x reply sane r turn. subst (λ (y : View). InTurn y.flights x reply) (sym r.is) turn;
   owner = λ u w x reply sane r turn. ap (λ (y : View). owner_of x.mid y.told.owners) r.is ∙ ap (owner_of x.mid) r.owners;
+  found = λ u w mid x r there. ap (λ (y : View). sent_with mid y.flights) r.is ∙ there;
 }
 
 -- bytes are got

@@ -1,6 +1,6 @@
 -- What the share does of itself, or for another client, makes no difference, and what is related stays so.
 use Rattle.std.proofs.Common.{arith, ◌≡◌, ◌∙◌, refl, sym, ap, subst, ℕ, ◌==◌, ◌≤◌, Bool, true, false, if◌then◌else◌, not, List, [], ◌∷◌, ◌++◌, Option, Some, None, append-nil}
-use Rattle.std.specs.Prelude.{map, filter, ◌&&◌, ◌||◌}
+use Rattle.std.specs.Prelude.{IsSomeAnd, map, option_map, filter, ◌&&◌, ◌||◌}
 use Rattle.std.specs.List.{list_all}
 use Rattle.std.proofs.lemmas.Bool.{false≢true}
 use Rattle.smb_base.specs.declared.names.Key.{Key}
@@ -37,6 +37,7 @@ use Rattle.fs_plain.proofs.AlikeLaws.{alike_beside, carried_step, stepped, alike
 use Rattle.fs_plain.proofs.ShareLaws.{step_ours}
 use Rattle.fs_client.specs.View.{View}
 use Rattle.fs_client.specs.Owing.{taken}
+use Rattle.fs_client.proofs.Lists.{found_map}
 use Rattle.fs_refine.specs.Related.{calm, Related}
 use Rattle.fs_refine.proofs.CallLists.{calls_more}
 use Rattle.fs_refine.proofs.Holding.{act_holds, ends_hold}
@@ -57,12 +58,14 @@ off_calm mid (x ∷ xs) = ap (λ (y : Sent). y ∷ map calm (map (put_off mid) x
     by false = refl
 
 pub pend_related : (s : Share) (p : PlainSide) (v : View) (mid : Mid) → Related s p v → MayPend (sent_with mid s.sent) → Related (after_pend_of (sent_with mid s.sent) mid s) p v
-pend_related s p v mid old may = by (sent_with mid s.sent) may
+pend_related s p v mid old may = by (sent_with mid s.sent) refl may
   where
-    by : (o : Option Sent) → MayPend o → Related (after_pend_of o mid s) p v
-    by None may = absurd may
-    by (Some x) may =
+    by : (o : Option Sent) → sent_with mid s.sent ≡ o → MayPend o → Related (after_pend_of o mid s) p v
+    by None is may = absurd may
+    by (Some x) is may =
         let s' : Share = after_pend_of (Some x) mid s in
+        let there : sent_with mid (taken s.owed v).flights ≡ Some (calm x) =
+        ap (sent_with mid) (sym old.sent) ∙ found_map mid calm s.sent (λ y. refl) ∙ ap (option_map calm) is in
         owing s s' p p v (owed.Interim mid x.message) old
         (record {
           alike = alike_beside s s' p refl old.alike;
@@ -73,7 +76,7 @@ pend_related s p v mid old may = by (sent_with mid s.sent) may
           described = refl;
           more = no_less s.opens_made;
           holders = old.holders;
-        }) (record {}) refl (off_calm mid s.sent ∙ old.sent) old.running
+        }) (subst (λ (o : Option Sent). IsSomeAnd o (λ (y : Sent). y.message ≡ x.message)) (sym there) refl) refl (off_calm mid s.sent ∙ old.sent) old.running
 
 -- another client's request
 not_passed_over : (r : Req) → is_built r ≡ true → is_passed_over r ≡ false
