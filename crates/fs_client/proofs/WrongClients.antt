@@ -3,7 +3,10 @@ use Rattle.std.proofs.Common.{arith, ◌≡◌, ◌<◌, ◌≤◌, rules, refl,
 use Rattle.std.proofs.lemmas.Bool.{false≢true}
 use Rattle.std.specs.Prelude.{codes, take, set, slice_index, map, None}
 use Rattle.std.specs.Str.{chars}
+use Rattle.share_spec.specs.declared.request.Rep.{Rep}
+use Rattle.share_spec.specs.declared.request.RepBody.TheVariants as body
 use Rattle.share_spec.specs.Names.{components}
+use Rattle.share_spec.specs.Reply.{fid_of}
 use Rattle.fs_types.specs.declared.answer.Answer.{Answer}
 use Rattle.fs_types.specs.declared.call.Call.TheVariants as call
 use Rattle.smb_base.specs.declared.names.Mid.{Mid}
@@ -24,7 +27,7 @@ use Rattle.smb_body_c.specs.Directory.{buffer_reply_of}
 use Rattle.smb_body_c.specs.Error.{error_reply_of}
 use Rattle.smb_body_c.specs.Info.{query_info_request_of}
 use Rattle.smb_info.specs.Attributes.{all_of}
-use Rattle.fs_plain.specs.Masked.{untold}
+use Rattle.fs_plain.specs.Masked.{Untold, NumberAndMark, untold}
 use Rattle.fs_plain.specs.Requests.{wire_request}
 use Rattle.fs_plain.specs.Replies.{reply_in, is_aside_reply}
 use Rattle.fs_plain.proofs.Frames.{opened_frame, both_frame, chain_frame}
@@ -41,6 +44,7 @@ use Rattle.smb_mount.specs.Requests.{unit_bytes}
 use Rattle.smb_mux.specs.Sending.{placed}
 use Rattle.smb_base.specs.declared.names.Fid.{Fid}
 use Rattle.smb_link.specs.Program.{File, Wish}
+use Rattle.fs_client.specs.Flies.{FliesAs}
 use Rattle.fs_client.specs.Item.{file_id}
 use Rattle.fs_client.specs.Spelled.{request_for}
 use Rattle.fs_client.specs.Mount.{Mounted, LeadTo, at_first}
@@ -67,6 +71,9 @@ one_three is = omega (arith, is)
 
 three_free : 3 ≤ 32
 three_free = omega arith
+
+abbrev an_open : Rep
+an_open = record { status = record { 0 = 0 }; body = body.Opened (fid_of 2) 1 0 0x10 0 false }
 
 some_none : {X : Type 0} {x : X} {xs : List X} → x ∷ xs ≡ [] → ⊥
 some_none is = search rules
@@ -133,6 +140,17 @@ without_a_mark exchanges frame (Mounting m) = some_none m.no_call
 without_a_mark exchanges frame (Echo m) = enough (bit_and m.facts.caps.0 4 == 4) m.short
 without_a_mark exchanges frame (LeavingTree m) = some_none m.leaving.no_call
 without_a_mark exchanges frame (LeavingSession m) = some_none m.leaving.no_call
+
+-- a stat that asks for FileStandardInformation, whose reply leaves out the number and the read-only mark
+abbrev pub standard_chain : List ℕ
+standard_chain = set chain_frame 199 5
+
+less_is_not_all : NumberAndMark ≡ Untold.Nothing → ⊥
+less_is_not_all is = search rules
+
+asks_for_less : (exchanges : List Exchange) → May s (done exchanges (begins ∷ announces ∷ [])) (event.Sent standard_chain) → ⊥
+unfolding chars components wire_request reply_in is_aside_reply head_of head_at number_at first_of frames_in rest_in step_of parts_of read_of contexts_of set_of path.components path.after_part name.fault_of name.spelling untold create_request_of close_request_of query_info_request_of part_in create_reply_of close_reply_of buffer_reply_of error_reply_of all_of FliesAs
+asks_for_less exchanges may = less_is_not_all ((may.asks.1 an_open refl).0.1)
 
 -- to leave the share before the end was said
 an_early_leave : (exchanges : List Exchange) (frame : List ℕ) → IsLeavingTree s (mounted_by exchanges) frame → ⊥
