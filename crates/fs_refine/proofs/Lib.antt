@@ -15,3 +15,5 @@ pub mod Kept
 pub mod Ends
 pub mod BrokenOff
 mod Chained
+pub mod Commands
+pub mod Faultless

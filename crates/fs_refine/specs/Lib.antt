@@ -1,3 +1,4 @@
 pub mod Calls
 pub mod Related
 pub mod Ends
+pub mod Faultless
