@@ -1,5 +1,5 @@
 -- A connection is made, could not be made, is silent or ends: it makes no difference, and what is related stays so.
-use Rattle.std.proofs.Common.{arith, ◌≡◌, ◌∙◌, refl, sym, ap, subst, ℕ, ◌≤◌}
+use Rattle.std.proofs.Common.{◌≡◌, ◌∙◌, refl, sym, ap, subst, ℕ}
 use Rattle.std.specs.Prelude.{filter}
 use Rattle.std.specs.List.{AllByRecursion}
 use Rattle.share_spec.specs.declared.share.Share.{Share}
@@ -26,9 +26,6 @@ use Rattle.fs_refine.proofs.Taking.{IsSame, same_taken}
 use Rattle.fs_refine.proofs.Changing.{well}
 use Rattle.fs_refine.proofs.ShareEvents.{ends_made, ends_ours}
 use Rattle.fs_refine.proofs.Marks.{Keeps}
-
-no_less : (n : ℕ) → n ≤ n
-no_less n = omega arith
 
 -- the plain side alone counts one event of the client less
 counted_related : (s : Share) (p p' : PlainSide) (v : View) → Related s p v → p'.plain ≡ p.plain → p'.pairs ≡ p.pairs → p'.kept ≡ p.kept → p'.described ≡ p.described → p'.told ≡ p.told

@@ -55,7 +55,7 @@ use Rattle.fs_refine.specs.Related.{Related}
 use Rattle.fs_refine.specs.Faultless.{awaited, AreFaultless}
 use Rattle.fs_refine.proofs.Taking.{IsWell, look_keeps, well_looked}
 use Rattle.fs_refine.proofs.Changing.{well}
-use Rattle.fs_refine.proofs.Getting.{pays_looked, paid}
+use Rattle.fs_refine.proofs.Getting.{same_number, pays_looked, paid}
 use Rattle.fs_refine.proofs.Commands.{share_command, aside_command}
 
 -- a request in flight is found among those that are awaited
@@ -244,9 +244,6 @@ interim_added v0 v t x head part a at interim error =
     ap (λ (l : Look). added l part t) (looked_at v0 v t x head part a at
     ∙ ap (λ (b : Bool). if b then if_sound (look.Interim head.mid) (error_fault part) else if_sound (look.Final head.mid) (reply_fault head.status.0 head.command part)) interim
     ∙ ap (if_sound (look.Interim head.mid)) (none_is (error_fault part) (error_is part ∙ error)))
-
-same_number : (a b : ℕ) → (a == b) ≡ true → a ≡ b
-same_number a b is = search rules
 
 -- what is known of a request in flight and of the head that answers it
 awaited_by : (v0 v : View) (t : Taken) (mid : Mid) (q : List ℕ) (x : Sent) (head : Head) → IsWell v → IsFit v → Awaits v0 v t → sent_with mid v.flights ≡ Some x → x.message ≡ q

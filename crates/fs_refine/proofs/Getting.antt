@@ -32,13 +32,12 @@ use Rattle.fs_plain.specs.Divergence.{side_after}
 use Rattle.fs_plain.proofs.AlikeLaws.{alike_beside, alike_calls}
 use Rattle.fs_client.specs.Item.{Placed}
 use Rattle.fs_client.specs.View.{Setting, View}
-use Rattle.fs_client.specs.Asked.{is_refused, left_by}
 use Rattle.fs_client.specs.After.{made_whole}
-use Rattle.fs_client.specs.Looks.{early_but, awaited_with, advanced, went, landed_by, without, looked_reply, looked_as, looked_for, looked, all_looked, answered_aside, landed_owed}
+use Rattle.fs_client.specs.Looks.{awaited_with, landed_by, without, looked_reply, looked_as, looked_for, looked, all_looked, answered_aside, landed_owed}
 use Rattle.fs_client.specs.Owing.{taken, IsShare, IsDueTo, IsDueAside, IsDue, AreDue}
 use Rattle.fs_client.proofs.Lists.{none_some, all_of, found}
-use Rattle.fs_client.proofs.Landing.{InTurn}
-use Rattle.fs_client.proofs.Keeping.{IsKept, along}
+use Rattle.fs_client.proofs.Steps.{gets}
+use Rattle.fs_client.proofs.Taken.{got_commutes}
 use Rattle.fs_refine.specs.Calls.{IsGiven, AreCalls, all_described}
 use Rattle.fs_refine.specs.Related.{Related}
 use Rattle.fs_refine.proofs.Holding.{same_holds}
@@ -55,7 +54,7 @@ first : (a b : Bool) → (a && b) ≡ true → a ≡ true
 first true b is = refl
 first false b is = absurd (false≢true is)
 
-same_number : (a b : ℕ) → (a == b) ≡ true → a ≡ b
+pub same_number : (a b : ℕ) → (a == b) ≡ true → a ≡ b
 same_number a b is = search rules
 
 answers_mid : (mid : Mid) (q : List ℕ) (head : Head) → answers mid q head ≡ true → head.mid.0 ≡ mid.0
@@ -240,23 +239,6 @@ paid (o ∷ os) (Ok m ∷ messages) u pays w due =
       is = ap (λ (x : View). taken (drop (length messages) os) (all_looked messages x)) is ∙ rest.is;
     }
 
--- what is held of a frame and what the server says of itself change nothing of the looks
-record Holds (h : List ℕ) (t : Told) (u w : View) : Type 0 where
-  is : w ≡ record u { held = h; told = t }
-  owners : t.owners ≡ u.told.owners
-
-holds_kept : (h : List ℕ) (t : Told) → IsKept (Holds h t)
-holds_kept h t = record {
-  on = λ u w x reply sane r turn. record {
-    is = ap (went x reply) r.is
-        ∙ ap (λ (os : List Owner). record u { held = h; told = t; items = advanced (owner_of x.mid os) (is_refused x) reply u.items; flights = left_by x reply u.flights; early = early_but x.mid u.early }) r.owners;
-    owners = r.owners;
-  };
-  turn = λ u w x reply sane r turn. subst (λ (y : View). InTurn y.flights x reply) (sym r.is) turn;
-  owner = λ u w x reply sane r turn. ap (λ (y : View). owner_of x.mid y.told.owners) r.is ∙ ap (owner_of x.mid) r.owners;
-  found = λ u w mid x r there. ap (λ (y : View). sent_with mid y.flights) r.is ∙ there;
-}
-
 -- bytes are got
 pub got_keeps : (run : Run) (st : Setting) (s : Share) (p : PlainSide) (v : View) (bytes : List ℕ) → Related s p v → MayGet bytes s → Keeps run st s p v (event.Got bytes)
 got_keeps run st s p v bytes old may =
@@ -265,7 +247,7 @@ got_keeps run st s p v bytes old may =
     let t : Told = told_after (event.Got bytes) messages v.told in
     let h : List ℕ = rest_in (v.held ++ bytes) in
     let u : View = record v { held = h; told = t } in
-    let a = along (Holds h t) (holds_kept h t) s.owed v u old.sane old.early old.early (record { is = refl; owners = refl }) old.due in
+    let a = got_commutes s.owed v h t refl old.sane old.early old.due in
     let start : IsWell u = record {
       sane = record {
         flies = old.sane.flies;
@@ -285,8 +267,8 @@ got_keeps run st s p v bytes old may =
     let s' : Share = after_got bytes s in
     let p' : PlainSide = side_after run s p (event.Got bytes) in
     let owed_is : s'.owed ≡ drop (length messages) s.owed = ap (λ (l : List (Result (List ℕ) BadNext)). drop (length l) s.owed) same in
-    let all : taken s'.owed (all_looked messages u) ≡ record (taken s.owed v) { held = h; told = t } =
-    ap (λ (os : List Owed). taken os (all_looked messages u)) owed_is ∙ g.is ∙ a.related.is in
+    let all : taken s'.owed (all_looked messages u) ≡ gets h t (taken s.owed v) =
+    ap (λ (os : List Owed). taken os (all_looked messages u)) owed_is ∙ g.is ∙ a.is in
     let due : AreDue (all_looked messages u) s'.owed = subst (AreDue (all_looked messages u)) (sym owed_is) g.due in (
       refl,
       record {

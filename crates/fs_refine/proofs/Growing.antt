@@ -16,6 +16,9 @@ use Rattle.fs_client.specs.Item.{Item, Place, OfFile, KeptSince, Placed}
 use Rattle.fs_client.proofs.Lists.{all_more}
 use Rattle.fs_refine.specs.Calls.{plain_number, IsGiven, IsAlong, IsCall, described_as, all_described}
 
+pub no_less : (n : ℕ) → n ≤ n
+no_less n = omega arith
+
 -- a request gives one number at most
 pub made_more : (choice : Option Grant) (s : Share) (who : Who) (r : Req) → s.opens_made ≤ (step_of choice s who r).1.opens_made
 made_more choice s who r = by (step_counts choice s who r)

@@ -41,12 +41,9 @@ use Rattle.fs_client.proofs.Lists.{found_map}
 use Rattle.fs_refine.specs.Related.{calm, Related}
 use Rattle.fs_refine.proofs.CallLists.{calls_more}
 use Rattle.fs_refine.proofs.Holding.{act_holds, ends_hold}
-use Rattle.fs_refine.proofs.Growing.{made_more, IsLater, call_later}
+use Rattle.fs_refine.proofs.Growing.{no_less, made_more, IsLater, call_later}
 use Rattle.fs_refine.proofs.Changing.{owing, beside}
 use Rattle.fs_refine.proofs.Took.{took_related}
-
-no_less : (n : ℕ) → n ≤ n
-no_less n = omega arith
 
 -- a request is put off: an interim reply is owed, and nothing else changes
 off_calm : (mid : Mid) (xs : List Sent) → map calm (map (put_off mid) xs) ≡ map calm xs

@@ -49,7 +49,7 @@ use Rattle.fs_refine.specs.Related.{calm, Related}
 use Rattle.fs_refine.proofs.CallLists.{call_found, calls_on}
 use Rattle.fs_refine.proofs.Holding.{wish_holds}
 use Rattle.fs_refine.proofs.Taking.{IsWell, well_taken, IsSame, same_taken}
-use Rattle.fs_refine.proofs.Growing.{made_more, IsLater, along_later, call_later}
+use Rattle.fs_refine.proofs.Growing.{no_less, made_more, IsLater, along_later, call_later}
 use Rattle.fs_refine.proofs.Changing.{well, owing}
 use Rattle.fs_refine.proofs.Masks.{masked_came, masked_fits, masked_itself}
 use Rattle.fs_refine.proofs.Requests.{wished_itself, wish_built, HasFiles, wish_carried, opens_after}
@@ -77,9 +77,6 @@ behind_calm frame last (x ∷ xs) =
     by : (t : Bool) → calm (if t then record x { last_create = last } else x) ≡ (if t then record (calm x) { last_create = last } else calm x)
     by true = refl
     by false = refl
-
-no_less : (n : ℕ) → n ≤ n
-no_less n = omega arith
 
 -- a request waits that is the first of its frame to do so: it is in flight once all was looked at, and the first of its frame
 pub record IsTurn (s : Share) (v : View) (x : Sent) : Type 0 where
