@@ -15,22 +15,26 @@ use Rattle.fs_plain.specs.Answered.{Difference, is_number, ended_by, compared}
 use Rattle.fs_plain.specs.Differences.{first_of_two}
 use Rattle.fs_plain.specs.Holders.{HeldByCall, HeldByFile, IsHeld}
 use Rattle.fs_plain.specs.Paired.{Pair}
-use Rattle.fs_plain.specs.PlainSide.{PlainCall, PlainSide, call_with}
+use Rattle.fs_plain.specs.PlainSide.{PlainCall, PlainSide, call_with, plain_side}
 use Rattle.fs_plain.specs.PlainAnswered.{finished_on, is_passed_by, judged_answer_of, without_call, side_after_answer_of}
-use Rattle.fs_plain.specs.Divergence.{side_after, divergence_from}
+use Rattle.fs_plain.specs.Divergence.{side_after, divergence_from, side_at}
 use Rattle.fs_plain.proofs.AlikeLaws.{alike_clear, alike_closed}
 use Rattle.fs_client.specs.Item.{Item, item_with, items_but}
-use Rattle.fs_client.specs.View.{Setting, View, Client}
-use Rattle.fs_client.specs.After.{after}
+use Rattle.fs_client.specs.View.{Setting, View, Client, no_client}
+use Rattle.fs_client.specs.After.{after, all_after, own}
 use Rattle.fs_client.specs.May.{MayAnnounceFor, May, Allowed}
 use Rattle.fs_client.specs.Owing.{taken}
 use Rattle.fs_client.proofs.Lists.{some_more}
 use Rattle.fs_refine.specs.Calls.{AreCalls, all_described}
-use Rattle.fs_refine.specs.Related.{Related}
+use Rattle.fs_refine.specs.Related.{Related, IsOfRun}
 use Rattle.fs_refine.specs.Ends.{IsLeft, BreaksOff, AreClosings, IsThrifty, AreThrifty}
 use Rattle.fs_refine.proofs.CallLists.{stem, call_found, calls_without, none_runs}
 use Rattle.fs_refine.proofs.Changing.{well}
 use Rattle.fs_refine.proofs.Taking.{same_taken}
+use Rattle.share_spec.specs.State.{Making}
+use Rattle.fs_plain.specs.Honest.{start, IsHonest}
+use Rattle.fs_plain.specs.CleanEnd.{share_after}
+use Rattle.fs_refine.proofs.Kept.{kept, related_first}
 
 -- where no call runs no open of this client stands
 none_held : (opens : List Open) (p : PlainSide) → p.running ≡ [] → p.described ≡ [] → AllByRecursion (IsHeld p) opens → list_all (λ (o : Open). not (o.who.0 == 0)) opens ≡ true
@@ -62,6 +66,14 @@ left_clean s p v old none =
       entries = (alike_clear s p old.alike).1;
       opens = alike_closed s p old.alike (none_held p.plain.opens p running files old.holders.opens);
     }
+
+-- so a story of such a client, at whose end no call runs, leaves the share as the plain side has it
+pub ends_clean : (run : Run) (st : Setting) (made : Making) (story : List Event) → IsOfRun run st → IsHonest made.room made.fold story → Allowed st no_client (own story)
+    → (all_after st no_client (own story)).view.items ≡ [] → IsLeft (share_after (start made.room made.fold story) story) (side_at run (start made.room made.fold story) (plain_side made story) story)
+ends_clean run st made story of honest allowed none =
+    let s : Share = start made.room made.fold story in
+    left_clean (share_after s story) (side_at run s (plain_side made story) story) (all_after st no_client (own story)).view
+    (kept run st story 1 s (plain_side made story) no_client of (related_first made story) honest allowed).related none
 
 -- an answer of a broken-off run is passed over
 number_itself : (n : ℕ) → (n == n) ≡ true
