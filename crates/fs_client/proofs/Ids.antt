@@ -1,7 +1,8 @@
 -- The ids and the requests in flight of a client are those that smb_mux keeps: as frames are sent, and as frames come.
-use Rattle.std.proofs.Common.{arith, ◌≡◌, ◌∙◌, refl, sym, ap, ap₂, subst, ℕ, ◌+◌, ◌^◌, ◌<◌, ◌≤◌, min, List, [], ◌∷◌, ◌++◌, Result, Ok, Err}
+use Rattle.std.proofs.Common.{arith, ◌≡◌, ◌∙◌, refl, sym, ap, ap₂, subst, ℕ, suc, length, ◌+◌, ◌^◌, ◌<◌, ◌≤◌, min, List, [], ◌∷◌, ◌++◌, Result, Ok, Err}
 use Rattle.std.specs.Prelude.{map}
 use Rattle.std.specs.List.{AllByRecursion}
+use Rattle.std.proofs.lemmas.Bool.{false≢true}
 use Rattle.smb_base.specs.declared.names.Mid.{Mid}
 use Rattle.smb_le.specs.Numbers.{number_at, bytes_of}
 use Rattle.smb_le.proofs.NumberLaws.{number_at-bytes_of}
@@ -9,8 +10,11 @@ use Rattle.smb_head.specs.declared.head.Head.{Head}
 use Rattle.smb_head.specs.declared.head.HeadFault.{HeadFault}
 use Rattle.smb_head.specs.declared.request.Request.{Request}
 use Rattle.smb_head.specs.Header.{head_of, header}
+use Rattle.smb_head.specs.Stream.{first_of}
+use Rattle.smb_head.specs.Stream as stream
 use Rattle.smb_chain.specs.declared.parts.BadNext.{BadNext}
-use Rattle.smb_chain.specs.Chain.{padded, linked, size_of, parts_for}
+use Rattle.smb_chain.specs.Chain.{padded, linked, size_of, parts_for, chain}
+use Rattle.smb_chain.specs.Parts.{step_of, parts_of}
 use Rattle.smb_credit.specs.Window.{Ids, no_request, least, cost, after_use, up_to}
 use Rattle.smb_credit.proofs.WindowLaws.{after_use-up_to, granted_more-up_to}
 use Rattle.smb_mux.specs.Sending.{costs, ids_after, head_for, message_for, placed, flights_of}
@@ -19,11 +23,13 @@ use Rattle.share_spec.specs.declared.connection.Sent.{Sent}
 use Rattle.smb_link.specs.declared.event.Event.{Event}
 use Rattle.smb_link.specs.declared.event.Event.TheVariants as event
 use Rattle.fs_plain.specs.Replies.{command_of}
+use Rattle.fs_plain.specs.Requests.{wire_request}
 use Rattle.fs_plain.specs.World.{requests_among}
 use Rattle.fs_client.specs.View.{Setting, Client}
-use Rattle.fs_client.specs.After.{costs_among, granted_by, granted_among, made_whole, tally_after, after, all_after}
+use Rattle.fs_client.specs.After.{parts_sent, costs_among, granted_by, granted_among, made_whole, tally_after, after, all_after}
+use Rattle.fs_client.specs.Spelled.{ids_of, AreNext, IsFrameOf}
 use Rattle.fs_client.proofs.Frames.{requests_are}
-use Rattle.fs_client.proofs.SpelledLaws.{AsksSomething, least_is, mid_read, charge_read}
+use Rattle.fs_client.proofs.SpelledLaws.{AsksSomething, spelled_parts, least_is, mid_read, charge_read}
 
 -- requests are sent: as many ids more are used as they cost
 pub ids_sent : (rs : List Request) (next top : ℕ) → next + costs rs ≤ top → ids_after (up_to next top) rs ≡ up_to (next + costs rs) top
@@ -53,6 +59,21 @@ costs_spelled (r ∷ []) ids charges =
 costs_spelled (r ∷ second ∷ rs) ids charges =
     ap₂ (λ (a b : ℕ). cost a + b) (charge_read (linked (head_for (least ids) r) (padded (size_of (message_for (least ids) r)))) _ charges.0)
     (costs_spelled (second ∷ rs) (after_use (cost r.charge) ids) charges.1)
+
+-- no request is no frame
+none_spelled : (next : ℕ) (ids : Ids) → AreNext next (parts_sent (stream.frame (chain (placed ids [])))) → ⊥
+unfolding first_of step_of parts_of chain wire_request head_of
+none_spelled next ids are = false≢true (sym are.1)
+
+pub costs_sent : (rs : List Request) (c : Client) (frame : List ℕ) → IsFrameOf rs c frame → AllByRecursion (λ (r : Request). r.charge < 2 ^ 16) rs → costs_among (parts_sent frame) ≡ costs rs
+costs_sent [] c frame is charges = absurd (none_spelled c.view.next (ids_of c) (subst (λ (l : List ℕ). AreNext c.view.next (parts_sent l)) is.spelled is.next))
+costs_sent (r ∷ rs) c frame is charges =
+    ap (λ (l : List ℕ). costs_among (parts_sent l)) is.spelled
+    ∙ ap costs_among (spelled_parts (ids_of c) (r ∷ rs) (many (length rs)) is.room)
+    ∙ costs_spelled (r ∷ rs) (ids_of c) charges
+  where
+    many : (n : ℕ) → 0 < suc n
+    many n = omega arith
 
 -- messages come: as many ids more may be used as they grant, never the one of what answers no request
 grown_below : (n more : ℕ) → min (n + more) no_request ≤ no_request

@@ -132,6 +132,7 @@ frame_of_requests rs c connected granted below some room charges asks =
       connected = connected;
       spelled = refl;
       granted = granted;
+      room = room;
       some = subst (λ (l : List (Result (List ℕ) BadNext)). 0 < length l) (sym parts) (many rs some);
       next = subst (AreNext c.view.next) (sym parts) (spelled_next rs c.view.next c.tally.granted granted below charges asks);
     }

@@ -1,7 +1,8 @@
 -- Clients that do what they may, from a mounted share on: a chain of three; two lanes whose replies cross; a CREATE that is refused with
 -- its two related requests; an interim reply; a reply that is got in pieces.
-use Rattle.std.proofs.Common.{arith, ◌≤◌, ◌<◌, ◌+◌, ℕ, true, false, [], ◌∷◌, ◌++◌, refl, inl, None, List, replicate}
-use Rattle.std.specs.Prelude.{codes, take, drop, set}
+use Rattle.std.proofs.Common.{arith, ◌≡◌, ◌≤◌, ◌<◌, ◌+◌, ℕ, true, false, [], ◌∷◌, ◌++◌, refl, inl, None, List, replicate}
+use Rattle.std.specs.Prelude.{codes, take, drop, set, nat_le}
+use Rattle.std.proofs.lemmas.Bool.Decides.{nat_tests}
 use Rattle.std.specs.Str.{chars}
 use Rattle.smb_base.specs.declared.names.Mid.{Mid}
 use Rattle.fs_types.specs.declared.names.Kind.TheVariants as kind
@@ -17,6 +18,7 @@ use Rattle.smb_link.specs.declared.event.Event.{Event}
 use Rattle.smb_link.specs.declared.event.Event.TheVariants as event
 use Rattle.smb_link.specs.declared.mark.Mark.TheVariants as mark
 use Rattle.smb_le.specs.Numbers.{number_at, bytes_of}
+use Rattle.smb_head.specs.declared.first.TheConstants.{MAX_FRAME}
 use Rattle.smb_head.specs.Header.{head_of, head_at, header}
 use Rattle.smb_head.specs.Stream.{first_of, frames_in, rest_in}
 use Rattle.smb_chain.specs.Chain.{chain}
@@ -51,6 +53,10 @@ use Rattle.fs_client.specs.May.{Allowed}
 use Rattle.fs_client.proofs.Chains.{flies_three}
 use Rattle.fs_client.proofs.StatChain.{stat_wants_three}
 use Rattle.fs_client.proofs.Spellings.{facts, stat_wishes}
+
+-- frames are short
+pub short : (n : ℕ) → nat_le n MAX_FRAME ≡ true → n ≤ MAX_FRAME
+short n is = grind (arith, nat_tests)
 
 abbrev pub mid : ℕ → Mid
 mid n = record { 0 = n }
@@ -143,7 +149,7 @@ a_chain_of_three exchanges mounted = (
         announced = refl;
         idle = record {};
         wishes = stat_wishes [];
-        frame_is = record { connected = refl; spelled = refl; granted = three_granted; some = some_less; next = (refl, refl, (refl, refl, (refl, refl, record {}))) };
+        frame_is = record { connected = refl; spelled = refl; granted = three_granted; room = short _ refl; some = some_less; next = (refl, refl, (refl, refl, (refl, refl, record {}))) };
         count = refl;
         first = refl;
         asks = of_stat a_stat nothing_known;
@@ -215,7 +221,7 @@ two_lanes exchanges mounted = (
           announced = refl;
           idle = record {};
           wishes = stat_wishes [];
-          frame_is = record { connected = refl; spelled = refl; granted = three_granted; some = some_less; next = (refl, refl, (refl, refl, (refl, refl, record {}))) };
+          frame_is = record { connected = refl; spelled = refl; granted = three_granted; room = short _ refl; some = some_less; next = (refl, refl, (refl, refl, (refl, refl, record {}))) };
           count = refl;
           first = refl;
           asks = of_stat a_stat nothing_known;
@@ -230,7 +236,7 @@ two_lanes exchanges mounted = (
               announced = refl;
               idle = record {};
               wishes = stat_wishes (codes "b");
-              frame_is = record { connected = refl; spelled = refl; granted = six_granted; some = some_less; next = (refl, refl, (refl, refl, (refl, refl, record {}))) };
+              frame_is = record { connected = refl; spelled = refl; granted = six_granted; room = short _ refl; some = some_less; next = (refl, refl, (refl, refl, (refl, refl, record {}))) };
               count = refl;
               first = refl;
               asks = of_other other_stat nothing_known;

@@ -25,7 +25,7 @@ use Rattle.fs_client.specs.After.{after}
 use Rattle.fs_client.specs.Mount.{Mounted, LeadTo, at_first}
 use Rattle.fs_client.specs.May.{was_answered, IsEcho, Mounting, LeavingTree, May}
 use Rattle.fs_client.proofs.Spellings.{facts}
-use Rattle.fs_client.proofs.Stories.{s, mounted_by}
+use Rattle.fs_client.proofs.Stories.{s, mounted_by, short}
 
 -- a request alone under the next id
 abbrev alone : ℕ → ℕ → Request → List ℕ
@@ -49,7 +49,7 @@ the_mount_begins = Mounting (record {
   asks = refl;
   no_call = refl;
   quiet = refl;
-  frame_is = record { connected = refl; spelled = refl; granted = one_within; some = some; next = (refl, refl, record {}) };
+  frame_is = record { connected = refl; spelled = refl; granted = one_within; room = short _ refl; some = some; next = (refl, refl, record {}) };
   aside = (refl, tt);
 })
 
@@ -60,7 +60,7 @@ the_share_is_left exchanges mounted once = LeavingTree (record {
   facts = facts;
   leaving = record { mounted = mounted; over = refl; no_call = refl; no_open = refl; quiet = refl };
   once = once;
-  frame_is = record { connected = refl; spelled = refl; granted = one_of_many; some = some; next = (refl, refl, record {}) };
+  frame_is = record { connected = refl; spelled = refl; granted = one_of_many; room = short _ refl; some = some; next = (refl, refl, record {}) };
   aside = (refl, tt);
 })
 

@@ -5,6 +5,7 @@ use Rattle.smb_base.specs.declared.names.Fid.{Fid}
 use Rattle.smb_base.specs.declared.names.Mid.{Mid}
 use Rattle.smb_head.specs.declared.command.TheConstants.{CREATE, CLOSE, ECHO, QUERY_INFO}
 use Rattle.smb_head.specs.declared.request.Request.{Request}
+use Rattle.smb_head.specs.declared.first.TheConstants.{MAX_FRAME}
 use Rattle.smb_head.specs.Stream as stream
 use Rattle.smb_chain.specs.declared.parts.BadNext.{BadNext}
 use Rattle.smb_chain.specs.Chain.{chain}
@@ -15,7 +16,7 @@ use Rattle.smb_field.specs.Body.{spelling}
 use Rattle.smb_field.specs.TwoParts.{spelling_of_two}
 use Rattle.smb_mount.specs.declared.facts.Facts.{Facts}
 use Rattle.smb_mount.specs.Requests.{charge_of, unit_bytes, empty_body}
-use Rattle.smb_mux.specs.Sending.{costs, placed}
+use Rattle.smb_mux.specs.Sending.{costs, placed, room_of}
 use Rattle.smb_link.specs.Program.{File, Wish, Open as Opening, Query, Close}
 use Rattle.fs_plain.specs.Requests.{wire_request}
 use Rattle.fs_plain.specs.World.{mid_of}
@@ -103,10 +104,11 @@ AreNext next (Err bad ∷ parts) = ⊥
 AreNext next (Ok message ∷ parts) =
     ((mid_of message).0 ≡ next) × (is_none (wire_request message) ≡ false) × AreNext (next + cost_of message) parts
 
--- a frame is these requests, on a connection that stands, and within the ids that were granted
+-- a frame is these requests, on a connection that stands, within the ids that were granted, and no longer than a frame may be
 pub record IsFrameOf (requests : List Request) (c : Client) (frame : List ℕ) : Type 0 where
   pub connected : c.view.connected ≡ true
   pub spelled : frame ≡ stream.frame (chain (placed (ids_of c) requests))
   pub granted : c.view.next + costs requests ≤ c.tally.granted
+  pub room : room_of requests ≤ MAX_FRAME
   pub some : 0 < length (parts_sent frame)
   pub next : AreNext c.view.next (parts_sent frame)

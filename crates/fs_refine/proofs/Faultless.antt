@@ -1,6 +1,5 @@
 -- In the frames of an honest share a client finds no fault.
 use Rattle.std.proofs.Common.{rules, arith, ◌≡◌, ◌∙◌, refl, sym, ap, subst, ℕ, zero, suc, ◌+◌, ◌%◌, ◌==◌, ◌<◌, ◌≤◌, Bool, true, false, cond, if◌then◌else◌, not, List, [], ◌∷◌, ◌++◌, length, take, drop, Option, Some, None, Result, Ok, Err, inl, inr, Less, Equal, Greater}
-use Rattle.std.specs.List.{AllByRecursion}
 use Rattle.std.specs.Prelude.{IsSomeAnd, map, filter, option_map, nat_lt, is_some, is_none, is_ok, ◌&&◌, ◌||◌}
 use Rattle.std.specs.Ordering.{nat_cmp, is_eq}
 use Rattle.std.specs.Cmp.{nat_cmp_is}
@@ -52,7 +51,7 @@ use Rattle.fs_client.proofs.Landing.{InTurn, all_left}
 use Rattle.fs_client.proofs.Bodies.{error_is, create_agrees, close_agrees, query_read, asides_agree}
 use Rattle.fs_client.proofs.Keeping.{done, reply_is, aside_is}
 use Rattle.fs_refine.specs.Related.{Related}
-use Rattle.fs_refine.specs.Faultless.{awaited, AreFaultless}
+use Rattle.fs_refine.specs.Faultless.{awaited, AreFaultless, AreWhole}
 use Rattle.fs_refine.proofs.Taking.{IsWell, look_keeps, well_looked}
 use Rattle.fs_refine.proofs.Changing.{well}
 use Rattle.fs_refine.proofs.Getting.{same_number, pays_looked, paid}
@@ -177,12 +176,15 @@ record One (v0 w : View) (part : List ℕ) (l : Result Taken TakeFault) : Type 0
 -- the ids that were used are below the one of no request, and the replies to what is in flight leave nothing out
 pub record IsFit (v : View) : Type 0 where
   pub next : v.next ≤ no_request
-  pub whole : AllByRecursion (λ (x : Sent). untold x.message ≡ Untold.Nothing) v.flights
+  pub whole : AreWhole v.flights
+
+pub went_whole : (x : Sent) (reply : Rep) (v : View) → AreWhole v.flights → AreWhole (went x reply v).flights
+went_whole x reply v whole = all_left (λ (y : Sent). untold y.message ≡ Untold.Nothing) x reply v.flights (λ y is. ap untold (it_message x reply y) ∙ is) whole
 
 fit_went : (v : View) (x : Sent) (reply : Rep) → Sane v → InTurn v.flights x reply → IsFit v → IsFit (went x reply v)
 fit_went v x reply sane turn fit = record {
   next = fit.next;
-  whole = all_left (λ (y : Sent). untold y.message ≡ Untold.Nothing) x reply v.flights (λ y is. ap untold (it_message x reply y) ∙ is) fit.whole;
+  whole = went_whole x reply v fit.whole;
 }
 
 paid_keeps : (os : List Owed) (messages : List (Result (List ℕ) BadNext)) (u : View) → ArePaid os messages → IsWell u → AreDue u os → IsFit u → IsFit (all_looked messages u)

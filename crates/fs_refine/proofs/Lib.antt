@@ -17,3 +17,4 @@ pub mod BrokenOff
 mod Chained
 pub mod Commands
 pub mod Faultless
+pub mod Fair
