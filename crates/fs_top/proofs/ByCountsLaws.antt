@@ -1,5 +1,5 @@
 -- The counts of a link after the events of a run.
-use Rattle.fs_core.specs.Course.{bytes_got, quiets_at_end}
+use Rattle.fs_asks.specs.Course.{bytes_got, quiets_at_end}
 use Rattle.std.proofs.Common.{◌≡◌, ◌≢◌, ◌≤◌, ◌⊎◌, ◌==◌, ◌&&◌, inl, inr, ℕ, ◌+◌, ◌-◌, ◌^◌, Bool, true, false, if◌then◌else◌, MatchBool, List, [], ◌∷◌, ◌++◌, Option, Some, None, Result, Ok, Err, min, refl, ap, sym, ◌∙◌, arith}
 use Rattle.smb_link.specs.Count.{counted, Rose}
 use Rattle.smb_link.specs.declared.event.Event.{Event}

@@ -24,12 +24,12 @@ use Rattle.fs_plain.specs.Moves.{Leads, Leaves}
 use Rattle.fs_plain.proofs.Leading.{leads_nowhere, leads_then}
 use Rattle.fs_plain.proofs.Leaving.{leaves_now, leads_then_leaves}
 use Rattle.fs_plain.specs.Taken.{wish_of}
-use Rattle.fs_core.specs.declared.reply_kind.ReplyFault.TheVariants as kind
-use Rattle.fs_core.specs.declared.wire.Stop.{Stop}
-use Rattle.fs_core.specs.declared.wire.Stop.TheVariants as stop
-use Rattle.fs_core.specs.Foul.{foul_stop}
-use Rattle.fs_core.specs.Exchange.{resting, awaiting}
-use Rattle.fs_core.specs.Asking.{flown, landed, flight_of, MayRequest, RequestLeads, IsFlight, AnswerLeads}
+use Rattle.fs_asks.specs.declared.reply_kind.ReplyFault.TheVariants as kind
+use Rattle.fs_asks.specs.declared.wire.Stop.{Stop}
+use Rattle.fs_asks.specs.declared.wire.Stop.TheVariants as stop
+use Rattle.fs_asks.specs.Foul.{foul_stop}
+use Rattle.fs_asks.specs.Exchange.{resting, awaiting}
+use Rattle.fs_asks.specs.Asking.{flown, landed, flight_of, MayRequest, RequestLeads, IsFlight, AnswerLeads}
 use Rattle.fs_top.specs.Runs.{run_options, MayGoOn, IsSaid, Exchanges, Answers, IsPathOnShare, IsStat, IsStatThere, IsStatOpened, IsStatOpen, IsStatKnown}
 
 -- the request is in flight

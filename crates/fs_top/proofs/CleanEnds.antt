@@ -9,7 +9,7 @@ use Rattle.fs_plain.specs.Replay.{Replay}
 use Rattle.fs_plain.specs.CleanEnd.{Cleared, is_left}
 use Rattle.fs_plain.specs.Moves.{CleanEnds}
 use Rattle.fs_plain.specs.View.{no_view}
-use Rattle.fs_core.specs.Foul.{is_foul}
+use Rattle.fs_asks.specs.Foul.{is_foul}
 use Rattle.fs_top.specs.declared.run_end.End.{End}
 use Rattle.fs_top.specs.declared.run_end.End.TheVariants as end
 use Rattle.fs_top.specs.Runs.{run_options, status_of, foul_end, IsNever, AtEnd, Finishes}

@@ -14,18 +14,18 @@ use Rattle.smb_link.specs.declared.mark.Mark.{Mark}
 use Rattle.smb_mount.specs.declared.fault.MountFault.{MountFault}
 use Rattle.smb_mount.specs.declared.fault.MountFault.TheVariants as fault
 use Rattle.smb_mount.specs.Kept as kept
-use Rattle.fs_core.specs.declared.reply_kind.ReplyFault as kinds
-use Rattle.fs_core.specs.declared.reply_kind.ReplyFault.TheVariants as kind
-use Rattle.fs_core.specs.declared.wire.Stop.TheVariants as stop
-use Rattle.fs_core.specs.declared.wire.TheConstants.{MAX_FRAMES}
+use Rattle.fs_asks.specs.declared.reply_kind.ReplyFault as kinds
+use Rattle.fs_asks.specs.declared.reply_kind.ReplyFault.TheVariants as kind
+use Rattle.fs_asks.specs.declared.wire.Stop.TheVariants as stop
+use Rattle.fs_asks.specs.declared.wire.TheConstants.{MAX_FRAMES}
 use Rattle.smb_head.specs.declared.head.Head.{Head}
 use Rattle.smb_head.specs.declared.head.HeadFault.{HeadFault}
-use Rattle.fs_core.specs.Credits.{granted_in, grown, granted_after}
-use Rattle.fs_core.specs.Foul.{is_foul}
-use Rattle.fs_core.specs.Course.{Does, Tally, bytes_got, frames_got, quiets_at_end, is_mark, IsFaulty, IsUnread, request_in, StopsAt, SaysNothing, SaysNothingWith, FaultAt, StarvesAt}
-use Rattle.fs_core.proofs.Courses.{frames_none, got_then}
-use Rattle.fs_core.proofs.Turns.{turns_whole, turns_sent, turns_frames}
-use Rattle.fs_core.proofs.NoCredit.{never_faulty}
+use Rattle.fs_asks.specs.Credits.{granted_in, grown, granted_after}
+use Rattle.fs_asks.specs.Foul.{is_foul}
+use Rattle.fs_asks.specs.Course.{Does, Tally, bytes_got, frames_got, quiets_at_end, is_mark, IsFaulty, IsUnread, request_in, StopsAt, SaysNothing, SaysNothingWith, FaultAt, StarvesAt}
+use Rattle.fs_asks.proofs.Courses.{frames_none, got_then}
+use Rattle.fs_asks.proofs.Turns.{turns_whole, turns_sent, turns_frames}
+use Rattle.fs_asks.proofs.NoCredit.{never_faulty}
 use Rattle.fs_top.specs.declared.ahead.ScriptCall.{ScriptCall}
 use Rattle.fs_top.specs.declared.ahead.Over.TheVariants as over
 use Rattle.fs_top.specs.declared.run_end.End.{End}

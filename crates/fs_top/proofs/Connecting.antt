@@ -7,7 +7,7 @@ use Rattle.smb_link.specs.declared.faults.LinkFail.TheVariants as fail
 use Rattle.smb_link.specs.Story.{connect_events, connect_cuts}
 use Rattle.smb_link.specs.Came.{Seen, Came}
 use Rattle.smb_link.proofs.CameLaws.{came_none, came_then}
-use Rattle.fs_core.specs.Course.{Does}
+use Rattle.fs_asks.specs.Course.{Does}
 use Rattle.fs_top.specs.declared.run_end.End.TheVariants as end
 use Rattle.fs_top.specs.Run.{opening}
 use Rattle.fs_top.specs.Course.{script_marks, refusals, JoinsSo}

@@ -13,16 +13,16 @@ use Rattle.smb_link.specs.Came.{Seen}
 use Rattle.smb_link.proofs.CameLaws.{came_none, came_then}
 use Rattle.smb_mount.specs.declared.facts.Facts.{Facts}
 use Rattle.smb_mount.specs.Requests.{tree_disconnect, logoff}
-use Rattle.fs_core.specs.declared.reply_kind.ReplyFault as kinds
-use Rattle.fs_core.specs.declared.reply_kind.ReplyFault.TheVariants as kind
-use Rattle.fs_core.specs.declared.wire.Stop.{Stop}
-use Rattle.fs_core.specs.declared.wire.Stop.TheVariants as stop
-use Rattle.fs_core.specs.declared.wire.Wire.{Wire}
-use Rattle.fs_core.specs.declared.wire.TheConstants.{MAX_FRAMES}
+use Rattle.fs_asks.specs.declared.reply_kind.ReplyFault as kinds
+use Rattle.fs_asks.specs.declared.reply_kind.ReplyFault.TheVariants as kind
+use Rattle.fs_asks.specs.declared.wire.Stop.{Stop}
+use Rattle.fs_asks.specs.declared.wire.Stop.TheVariants as stop
+use Rattle.fs_asks.specs.declared.wire.Wire.{Wire}
+use Rattle.fs_asks.specs.declared.wire.TheConstants.{MAX_FRAMES}
 use Rattle.fs_top.specs.Runs.{IsReady}
-use Rattle.fs_core.specs.Course.{Does, tally_of, bytes_got, frames_got, is_of_talk, IsTalk, Tally, tallied, is_mark, FaultAt, StarvesAt, StopsAt, Replied, AskedSo, IsInTurn}
-use Rattle.fs_core.proofs.Courses.{got_then, tallied_none, tallied_then, talk_wait, stops_starved, all_in_turn}
-use Rattle.fs_core.proofs.Turns.{still_bytes, still_sent, turns_then, turns_whole, in_turn_then, replied_turns}
+use Rattle.fs_asks.specs.Course.{Does, tally_of, bytes_got, frames_got, is_of_talk, IsTalk, Tally, tallied, is_mark, FaultAt, StarvesAt, StopsAt, Replied, AskedSo, IsInTurn}
+use Rattle.fs_asks.proofs.Courses.{got_then, tallied_none, tallied_then, talk_wait, stops_starved, all_in_turn}
+use Rattle.fs_asks.proofs.Turns.{still_bytes, still_sent, turns_then, turns_whole, in_turn_then, replied_turns}
 use Rattle.fs_top.specs.declared.run_end.End.{End}
 use Rattle.fs_top.specs.declared.run_end.End.TheVariants as end
 use Rattle.fs_top.specs.RunEndings.{end_of}

@@ -1,5 +1,5 @@
 -- Lines, frames and tales, computed.
-use Rattle.fs_core.specs.Course.{bytes_got, quiets_at_end}
+use Rattle.fs_asks.specs.Course.{bytes_got, quiets_at_end}
 use Rattle.std.proofs.Common.{◌≡◌, ◌++◌, ℕ, map, List, [], ◌∷◌, length, replicate, codes, refl}
 use Rattle.std.specs.Str.{chars}
 use Rattle.std.specs.Fmt.{digits}
@@ -10,7 +10,7 @@ use Rattle.fs_top.specs.declared.ending.Ending.TheVariants as ending
 use Rattle.fs_top.specs.declared.ending.FirstFrameFault.TheVariants as kind
 use Rattle.smb_link.specs.Came.{counted_all, is_silence}
 use Rattle.smb_mount.specs.declared.fault.MountFault.TheVariants as fault
-use Rattle.fs_core.specs.declared.reply_kind.ReplyFault.TheVariants as reply
+use Rattle.fs_asks.specs.declared.reply_kind.ReplyFault.TheVariants as reply
 use Rattle.fs_top.specs.declared.run_end.End.{End}
 use Rattle.fs_top.specs.declared.run_end.End.TheVariants as end
 use Rattle.fs_top.specs.Endings.{text_of}

@@ -12,13 +12,13 @@ use Rattle.smb_link.specs.declared.mark.Mark.{Mark}
 use Rattle.smb_link.specs.declared.mark.Mark.TheVariants as mark
 use Rattle.smb_link.specs.Came.{Seen}
 use Rattle.smb_link.proofs.CameLaws.{came_then}
-use Rattle.fs_core.specs.declared.reply_kind.Awaited.{Awaited}
-use Rattle.fs_core.specs.declared.wire.Stop.{Stop}
-use Rattle.fs_core.specs.declared.wire.Wire.{Wire}
-use Rattle.fs_core.specs.declared.wire.Stop.TheVariants as stop
-use Rattle.fs_core.specs.Course.{Does, bytes_got, frames_got, Tally, tally_of, with_request, is_mark, InTurn, IsFaulty, IsUnread, AwaitedSo, AnsweredSo, Decides, is_unsent, SentSo, RequestedSo, request_in, StopsAt, IsInTurn}
-use Rattle.fs_core.proofs.Courses.{bytes_got-append, frames_none, same_counts, sent_none, sent_last, tallied_behind, tallied_sent, talk_wait, talk_cut, unsent_wait, unsent_cut, stops_unsent, all_in_turn}
-use Rattle.fs_core.proofs.Turns.{still_bytes, still_sent, still_between, wait_between, between_then}
+use Rattle.fs_asks.specs.declared.reply_kind.Awaited.{Awaited}
+use Rattle.fs_asks.specs.declared.wire.Stop.{Stop}
+use Rattle.fs_asks.specs.declared.wire.Wire.{Wire}
+use Rattle.fs_asks.specs.declared.wire.Stop.TheVariants as stop
+use Rattle.fs_asks.specs.Course.{Does, bytes_got, frames_got, Tally, tally_of, with_request, is_mark, InTurn, IsFaulty, IsUnread, AwaitedSo, AnsweredSo, Decides, is_unsent, SentSo, RequestedSo, request_in, StopsAt, IsInTurn}
+use Rattle.fs_asks.proofs.Courses.{bytes_got-append, frames_none, same_counts, sent_none, sent_last, tallied_behind, tallied_sent, talk_wait, talk_cut, unsent_wait, unsent_cut, stops_unsent, all_in_turn}
+use Rattle.fs_asks.proofs.Turns.{still_bytes, still_sent, still_between, wait_between, between_then}
 use Rattle.fs_top.specs.Course.{patience, script_marks, Stretch, Stopped, NoCall, ConversesSo, LooksSo}
 use Rattle.fs_top.specs.Talks.{ExchangesTo}
 use Rattle.fs_top.proofs.Courses.{script_marks-append, said_talk, stretch_still, stops_then}

@@ -31,7 +31,7 @@ use Rattle.smb_body_a.specs.Session.{session_setup_reply_of}
 use Rattle.smb_body_a.specs.Tree.{tree_connect_reply_of}
 use Rattle.smb_body_c.specs.Error.{error_reply_of}
 use Rattle.fs_plain.specs.Replies.{is_error, has_aside_body}
-use Rattle.fs_core.specs.Judged.{HasBodyWith, HasBody}
+use Rattle.fs_asks.specs.Judged.{HasBodyWith, HasBody}
 use Rattle.fs_top.specs.declared.run_end.End.{End}
 use Rattle.fs_top.specs.RunEndings.{mount_end}
 use Rattle.fs_top.specs.Runs.{foul_end, is_through}

@@ -4,7 +4,7 @@ use Rattle.smb_link.specs.declared.event.Event.{Event}
 use Rattle.smb_mount.specs.declared.facts.Facts.{Facts}
 use Rattle.smb_mount.specs.declared.states.SetUp.TheVariants as set_up
 use Rattle.smb_mount.specs.Kept as kept
-use Rattle.fs_core.specs.Course.{Tally}
+use Rattle.fs_asks.specs.Course.{Tally}
 use Rattle.fs_top.specs.MountCourse.{StepThen, Greets, SetsUp, Authenticates, ConnectsTree, AnswersChallenge, SetsUpSession, MountedBy}
 use Rattle.fs_top.specs.Course.{Stretch}
 use Rattle.fs_top.proofs.Courses.{taken_stretch, stretch_then}

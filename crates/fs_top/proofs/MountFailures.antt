@@ -7,8 +7,8 @@ use Rattle.smb_link.specs.Came.{Seen}
 use Rattle.smb_link.proofs.CameLaws.{came_none}
 use Rattle.smb_mount.specs.declared.fault.MountFault.{MountFault}
 use Rattle.smb_mount.specs.Kept as kept
-use Rattle.fs_core.specs.Course.{Does, Tally, SendsAtMost}
-use Rattle.fs_core.proofs.Courses.{all_in_turn}
+use Rattle.fs_asks.specs.Course.{Does, Tally, SendsAtMost}
+use Rattle.fs_asks.proofs.Courses.{all_in_turn}
 use Rattle.fs_top.specs.declared.run_end.End.{End}
 use Rattle.fs_top.specs.declared.run_end.End.TheVariants as end
 use Rattle.fs_top.specs.RunEndings.{mount_end}

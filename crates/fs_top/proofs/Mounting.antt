@@ -19,12 +19,12 @@ use Rattle.fs_plain.specs.View.{no_view}
 use Rattle.fs_plain.specs.Moves.{Leads, Leaves}
 use Rattle.fs_plain.proofs.Leading.{leads_nowhere, leads_then, leads_shares, leads_join}
 use Rattle.fs_plain.proofs.Leaving.{leaves_now, leads_then_leaves, leads_refused}
-use Rattle.fs_core.specs.declared.reply_kind.Awaited.{Awaited}
-use Rattle.fs_core.specs.declared.wire.Stop.{Stop}
-use Rattle.fs_core.specs.Judged.{FinalWith, IsFinal}
-use Rattle.fs_core.specs.Exchange.{resting}
-use Rattle.fs_core.specs.Asking.{IsAsideBody, AskLeads}
-use Rattle.fs_core.proofs.Asides.{negotiate_aside, session_aside, tree_aside, disconnect_aside, logoff_aside}
+use Rattle.fs_asks.specs.declared.reply_kind.Awaited.{Awaited}
+use Rattle.fs_asks.specs.declared.wire.Stop.{Stop}
+use Rattle.fs_asks.specs.Judged.{FinalWith, IsFinal}
+use Rattle.fs_asks.specs.Exchange.{resting}
+use Rattle.fs_asks.specs.Asking.{IsAsideBody, AskLeads}
+use Rattle.fs_asks.proofs.Asides.{negotiate_aside, session_aside, tree_aside, disconnect_aside, logoff_aside}
 use Rattle.fs_top.specs.declared.run_end.End.TheVariants as end
 use Rattle.fs_top.specs.RunEndings.{end_of}
 use Rattle.fs_top.proofs.Steps.{end_through, end_foul}

@@ -1,5 +1,5 @@
 -- No two endings of a run have their causes in the same words and the same events.
-use Rattle.fs_core.specs.Course.{bytes_got}
+use Rattle.fs_asks.specs.Course.{bytes_got}
 use Rattle.std.proofs.Common.{◌≡◌, ◌==◌, ◌&&◌, inl, inr, ℕ, Bool, true, false, List, [], ◌∷◌, ◌++◌, Option, Some, None, Result, Ok, Err, MatchBool, refl, ap, sym, ◌∙◌, subst}
 use Rattle.std.proofs.lemmas.List.{append_cancel_left}
 use Rattle.smb_link.specs.declared.event.Event.{Event}

@@ -19,13 +19,13 @@ use Rattle.fs_plain.specs.Moves.{run_of, Leads, Leaves, Closes, PlainAnswers}
 use Rattle.fs_plain.proofs.Leading.{leads_nowhere, leads_then, leads_begin, leads_answer}
 use Rattle.fs_plain.proofs.Clearing.{related_cleared}
 use Rattle.fs_plain.proofs.Leaving.{leaves_now, leaves_shares, gains_none, closes_shares, closes_answer, not_compared_fault, not_compared_loss, going_start, going_over, over_plain, over_after}
-use Rattle.fs_core.specs.Exchange.{resting}
+use Rattle.fs_asks.specs.Exchange.{resting}
 use Rattle.fs_top.specs.declared.ahead.Ahead.{Ahead}
 use Rattle.fs_top.specs.declared.ahead.ScriptCall.{ScriptCall}
 use Rattle.fs_top.specs.declared.run_end.End.{End}
 use Rattle.fs_top.specs.declared.run_end.End.TheVariants as end
-use Rattle.fs_core.specs.declared.wire.Stop.{Stop}
-use Rattle.fs_core.specs.Foul.{foul_stop}
+use Rattle.fs_asks.specs.declared.wire.Stop.{Stop}
+use Rattle.fs_asks.specs.Foul.{foul_stop}
 use Rattle.share_spec.specs.declared.share.Share.{Share}
 use Rattle.fs_types.specs.declared.options.Options.{Options}
 use Rattle.fs_top.specs.declared.ahead.Over.{Over}

@@ -12,11 +12,11 @@ use Rattle.smb_link.specs.declared.mark.Mark.TheVariants as mark
 use Rattle.smb_link.specs.Came.{Seen, Came}
 use Rattle.smb_link.proofs.CameLaws.{came_none, came_then}
 use Rattle.fs_script.specs.Answers.{line_of}
-use Rattle.fs_core.specs.declared.wire.Stop.{Stop}
-use Rattle.fs_core.specs.declared.wire.Stop.TheVariants as stop
-use Rattle.fs_core.specs.Course.{Does, Tally, is_mark, IsInTurn}
-use Rattle.fs_core.proofs.Courses.{all_in_turn}
-use Rattle.fs_core.proofs.Turns.{in_turn_then, in_turn_behind, stop_in_turn}
+use Rattle.fs_asks.specs.declared.wire.Stop.{Stop}
+use Rattle.fs_asks.specs.declared.wire.Stop.TheVariants as stop
+use Rattle.fs_asks.specs.Course.{Does, Tally, is_mark, IsInTurn}
+use Rattle.fs_asks.proofs.Courses.{all_in_turn}
+use Rattle.fs_asks.proofs.Turns.{in_turn_then, in_turn_behind, stop_in_turn}
 use Rattle.fs_top.specs.declared.ahead.ScriptCall.{ScriptCall}
 use Rattle.fs_top.specs.declared.run_end.End.{End}
 use Rattle.fs_top.specs.declared.run_end.End.TheVariants as end

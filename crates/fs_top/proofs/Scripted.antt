@@ -10,8 +10,8 @@ use Rattle.smb_link.proofs.CameLaws.{came_none, came_then}
 use Rattle.smb_mount.specs.declared.facts.Facts.{Facts}
 use Rattle.smb_mount.specs.Kept as kept
 use Rattle.fs_script.specs.Answers.{line_of}
-use Rattle.fs_core.specs.Course.{Does, Tally, IsInTurn}
-use Rattle.fs_core.proofs.Courses.{all_in_turn}
+use Rattle.fs_asks.specs.Course.{Does, Tally, IsInTurn}
+use Rattle.fs_asks.proofs.Courses.{all_in_turn}
 use Rattle.fs_top.specs.declared.ahead.ScriptCall.{ScriptCall}
 use Rattle.fs_top.specs.declared.ahead.Over.{Over}
 use Rattle.fs_top.specs.declared.ahead.Over.TheVariants as over

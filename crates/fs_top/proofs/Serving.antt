@@ -7,9 +7,9 @@ use Rattle.smb_mount.specs.declared.facts.Facts.{Facts}
 use Rattle.smb_mount.specs.declared.fault.MountFault.{MountFault}
 use Rattle.smb_mount.specs.declared.states.SetUp.TheVariants.{Challenged, Authenticated}
 use Rattle.smb_mount.specs.Kept as kept
-use Rattle.fs_core.specs.Course.{Tally, tallied, OneByOne}
-use Rattle.fs_core.proofs.Courses.{tallied_none, tallied_then}
-use Rattle.fs_core.proofs.Turns.{turns_then, turns_whole}
+use Rattle.fs_asks.specs.Course.{Tally, tallied, OneByOne}
+use Rattle.fs_asks.proofs.Courses.{tallied_none, tallied_then}
+use Rattle.fs_asks.proofs.Turns.{turns_then, turns_whole}
 use Rattle.fs_top.specs.declared.run_end.End.{End}
 use Rattle.fs_top.specs.RunEndings.{mount_end}
 use Rattle.fs_top.specs.MountCourse.{StepTaken, StepThen, Greets, SetsUp, Authenticates, MountedBy}

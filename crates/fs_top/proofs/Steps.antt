@@ -10,10 +10,10 @@ use Rattle.fs_plain.specs.View.{Item, View}
 use Rattle.fs_plain.specs.Moves.{Leads, Leaves}
 use Rattle.fs_plain.proofs.Leading.{leads_nowhere, leads_then, leads_end}
 use Rattle.fs_plain.proofs.Leaving.{leaves_now, leads_then_leaves, leaves_shares}
-use Rattle.fs_core.specs.Exchange.{resting}
-use Rattle.fs_core.specs.declared.wire.Stop.{Stop}
-use Rattle.fs_core.specs.declared.wire.Stop.TheVariants as stop
-use Rattle.fs_core.specs.Foul.{foul_stop}
+use Rattle.fs_asks.specs.Exchange.{resting}
+use Rattle.fs_asks.specs.declared.wire.Stop.{Stop}
+use Rattle.fs_asks.specs.declared.wire.Stop.TheVariants as stop
+use Rattle.fs_asks.specs.Foul.{foul_stop}
 use Rattle.fs_top.specs.declared.run_end.End.{End}
 use Rattle.fs_top.specs.declared.run_end.End.TheVariants as end
 use Rattle.fs_top.specs.RunEndings.{end_of}

@@ -6,7 +6,7 @@ use Rattle.fs_types.specs.declared.answer.Answer.{Answer}
 use Rattle.smb_link.specs.declared.event.Event.{Event}
 use Rattle.smb_link.specs.Program.{Say}
 use Rattle.fs_plain.specs.View.{Item}
-use Rattle.fs_core.specs.Asking.{flown, landed}
+use Rattle.fs_asks.specs.Asking.{flown, landed}
 use Rattle.fs_top.specs.declared.ahead.ScriptCall.{ScriptCall}
 use Rattle.fs_top.specs.Talks.{Exchanged, Talks, IsAnswered, EachAnswered}
 use Rattle.fs_top.proofs.Calling.{IsNextOf}

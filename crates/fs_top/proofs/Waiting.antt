@@ -7,8 +7,8 @@ use Rattle.smb_head.specs.Stream.{Partial, first_of}
 use Rattle.fs_top.specs.declared.ending.Ending.{Ending}
 use Rattle.fs_top.specs.declared.ending.Ending.TheVariants as ending
 use Rattle.smb_link.specs.Came.{Seen, Came}
-use Rattle.fs_core.specs.Course.{bytes_got, quiets_at_end}
-use Rattle.fs_core.proofs.Courses.{bytes_got-append, quiets_at_end-got, quiets_at_end-silence}
+use Rattle.fs_asks.specs.Course.{bytes_got, quiets_at_end}
+use Rattle.fs_asks.proofs.Courses.{bytes_got-append, quiets_at_end-got, quiets_at_end-silence}
 use Rattle.fs_top.specs.Tale.{Listens, GoesOn, FirstEnds, LastEnds, WaitEnds, HeardBy, Heard}
 use Rattle.smb_link.proofs.CameLaws.{came_none, came_then}
 

@@ -8,9 +8,9 @@ use Rattle.smb_link.specs.Came.{own, is_refusal, is_cut}
 use Rattle.smb_mount.specs.declared.fault.MountFault.{MountFault}
 use Rattle.smb_mount.specs.Kept as kept
 use Rattle.fs_plain.specs.Honest.{IsHonest}
-use Rattle.fs_core.specs.declared.wire.TheConstants.{MAX_FRAMES}
-use Rattle.fs_core.specs.Credits.{granted_in}
-use Rattle.fs_core.specs.Course.{Tally, OneByOne, bytes_got, frames_got, quiets_at_end}
+use Rattle.fs_asks.specs.declared.wire.TheConstants.{MAX_FRAMES}
+use Rattle.fs_asks.specs.Credits.{granted_in}
+use Rattle.fs_asks.specs.Course.{Tally, OneByOne, bytes_got, frames_got, quiets_at_end}
 use Rattle.fs_top.specs.declared.ahead.Over.TheVariants as over
 use Rattle.fs_top.specs.declared.run_end.End.TheVariants as end
 use Rattle.fs_top.specs.Course.{patience}

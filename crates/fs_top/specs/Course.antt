@@ -11,11 +11,11 @@ use Rattle.smb_link.specs.declared.mark.Mark.TheVariants as mark
 use Rattle.smb_mount.specs.declared.facts.Facts.{Facts}
 use Rattle.smb_mount.specs.Requests.{tree_disconnect, logoff}
 use Rattle.fs_script.specs.Answers.{line_of}
-use Rattle.fs_core.specs.declared.wire.Stop.{Stop}
-use Rattle.fs_core.specs.declared.wire.Stop.TheVariants as stop
+use Rattle.fs_asks.specs.declared.wire.Stop.{Stop}
+use Rattle.fs_asks.specs.declared.wire.Stop.TheVariants as stop
 use Rattle.smb_head.specs.declared.request.Request.{Request}
-use Rattle.fs_core.specs.declared.wire.TheConstants.{MAX_FRAMES}
-use Rattle.fs_core.specs.Course.{Tally, tallied, is_mark, OneByOne, IsInTurn, StopsAt, SendsAtMost}
+use Rattle.fs_asks.specs.declared.wire.TheConstants.{MAX_FRAMES}
+use Rattle.fs_asks.specs.Course.{Tally, tallied, is_mark, OneByOne, IsInTurn, StopsAt, SendsAtMost}
 use Rattle.fs_top.specs.declared.ahead.ScriptCall.{ScriptCall}
 use Rattle.fs_top.specs.declared.ahead.Over.{Over}
 use Rattle.fs_top.specs.declared.ahead.Over.TheVariants as over

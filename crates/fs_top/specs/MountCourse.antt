@@ -10,7 +10,7 @@ use Rattle.smb_mount.specs.Kept as kept
 use Rattle.smb_mount.specs.Tokens.{negotiate_token, authenticate_token}
 use Rattle.smb_mount.specs.Requests.{negotiate, session_setup, tree_connect}
 use Rattle.smb_mount.specs.Verdicts.{NegotiateEnds, SetUpEnds, SessionEnds, TreeEnds}
-use Rattle.fs_core.specs.Course.{Tally, Replied, IsMessageOf}
+use Rattle.fs_asks.specs.Course.{Tally, Replied, IsMessageOf}
 use Rattle.fs_top.specs.SharePath.{share_path}
 
 -- a request of the connection itself was sent under this id, and answered by this reply

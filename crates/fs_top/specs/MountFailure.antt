@@ -10,7 +10,7 @@ use Rattle.smb_mount.specs.Kept as kept
 use Rattle.smb_mount.specs.Tokens.{negotiate_token, authenticate_token}
 use Rattle.smb_mount.specs.Requests.{negotiate, session_setup, tree_connect}
 use Rattle.smb_mount.specs.Verdicts.{NegotiateEnds, SetUpEnds, SessionEnds, TreeEnds}
-use Rattle.fs_core.specs.Course.{Tally, SendsAtMost}
+use Rattle.fs_asks.specs.Course.{Tally, SendsAtMost}
 use Rattle.fs_top.specs.declared.run_end.End.{End}
 use Rattle.fs_top.specs.RunEndings.{mount_end}
 use Rattle.fs_top.specs.MountCourse.{Told, StepThen, Greets, SetsUp, Authenticates}

@@ -5,7 +5,7 @@ use Rattle.smb_link.specs.Came.{Seen}
 use Rattle.smb_mount.specs.declared.facts.Facts.{Facts}
 use Rattle.smb_mount.specs.Kept as kept
 use Rattle.fs_plain.specs.Honest.{IsHonest}
-use Rattle.fs_core.specs.Course.{Does, Tally}
+use Rattle.fs_asks.specs.Course.{Does, Tally}
 use Rattle.fs_top.specs.declared.run_end.End.{End}
 use Rattle.fs_top.specs.MountCourse.{MountedBy}
 use Rattle.fs_top.specs.MountFailure.{MountFails}

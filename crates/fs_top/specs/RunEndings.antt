@@ -2,10 +2,10 @@
 use Rattle.std.specs.Prelude.{◌≡◌, ◌⊎◌, ℕ, ◌/◌, ◌%◌, List, [], ◌∷◌, ◌++◌, codes}
 use Rattle.std.specs.Fmt.{decimal}
 use Rattle.hex.specs.Hex.{encode_upper}
-use Rattle.fs_core.specs.declared.reply_kind.ReplyFault.{ReplyFault}
-use Rattle.fs_core.specs.declared.reply_kind.ReplyFault.TheVariants as kind
-use Rattle.fs_core.specs.declared.wire.Stop.{Stop}
-use Rattle.fs_core.specs.declared.wire.Stop.TheVariants as stop
+use Rattle.fs_asks.specs.declared.reply_kind.ReplyFault.{ReplyFault}
+use Rattle.fs_asks.specs.declared.reply_kind.ReplyFault.TheVariants as kind
+use Rattle.fs_asks.specs.declared.wire.Stop.{Stop}
+use Rattle.fs_asks.specs.declared.wire.Stop.TheVariants as stop
 use Rattle.smb_mount.specs.declared.fault.MountFault.{MountFault}
 use Rattle.smb_mount.specs.declared.fault.MountFault.TheVariants as fault
 use Rattle.fs_script.specs.Answers.{status_text}

@@ -23,12 +23,12 @@ use Rattle.fs_plain.specs.CleanEnd.{Cleared}
 use Rattle.fs_plain.specs.Replay.{Replay}
 use Rattle.fs_plain.specs.View.{Item, View, fids_after, no_view}
 use Rattle.fs_plain.specs.Moves.{Going, Leads, Leaves, Over, Closes}
-use Rattle.fs_core.specs.declared.wire.Stop.{Stop}
-use Rattle.fs_core.specs.declared.wire.Wire.{Wire}
-use Rattle.fs_core.specs.declared.wire.TheConstants.{MAX_FRAMES}
-use Rattle.fs_core.specs.Foul.{is_foul, foul_stop}
-use Rattle.fs_core.specs.Exchange.{resting}
-use Rattle.fs_core.specs.Asking.{flown, landed, MayRequest}
+use Rattle.fs_asks.specs.declared.wire.Stop.{Stop}
+use Rattle.fs_asks.specs.declared.wire.Wire.{Wire}
+use Rattle.fs_asks.specs.declared.wire.TheConstants.{MAX_FRAMES}
+use Rattle.fs_asks.specs.Foul.{is_foul, foul_stop}
+use Rattle.fs_asks.specs.Exchange.{resting}
+use Rattle.fs_asks.specs.Asking.{flown, landed, MayRequest}
 use Rattle.fs_top.specs.declared.ahead.Ahead.{Ahead}
 use Rattle.fs_top.specs.declared.ahead.ScriptCall.{ScriptCall}
 use Rattle.fs_top.specs.declared.ahead.CallOrOver.{CallOrOver}

@@ -7,7 +7,7 @@ use Rattle.fs_top.specs.declared.ending.Ending.{Ending}
 use Rattle.fs_top.specs.declared.ending.Ending.TheVariants.{Memory, Frame, Cuts}
 use Rattle.fs_top.specs.declared.ending.FirstFrameFault.TheVariants.{Length}
 use Rattle.smb_link.specs.Came.{Seen, Came}
-use Rattle.fs_core.specs.Course.{bytes_got, quiets_at_end}
+use Rattle.fs_asks.specs.Course.{bytes_got, quiets_at_end}
 use Rattle.fs_top.specs.Verdict.{MessageEnds}
 
 -- bytes come, or nothing comes, but never 300 times in a row, after so many before; and nothing else happens

@@ -13,8 +13,8 @@ use Rattle.smb_link.specs.declared.mark.Mark.TheVariants as mark
 use Rattle.smb_link.specs.Program.{Program, Say}
 use Rattle.fs_plain.specs.View.{Item, rest_after, fids_after}
 use Rattle.fs_plain.specs.Sends.{IsWish}
-use Rattle.fs_core.specs.Judged.{Says}
-use Rattle.fs_core.specs.Course.{bytes_got, Decides, request_in, is_unsent}
+use Rattle.fs_asks.specs.Judged.{Says}
+use Rattle.fs_asks.specs.Course.{bytes_got, Decides, request_in, is_unsent}
 use Rattle.fs_top.specs.declared.ahead.ScriptCall.{ScriptCall}
 use Rattle.fs_top.specs.Runs.{IsStat}
 

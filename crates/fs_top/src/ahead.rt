@@ -6,7 +6,7 @@ ghost use Rattle.smb_link.specs.declared.mark.Mark.TheVariants as mark;
 ghost use Rattle.smb_link.specs.Count.{counted};
 ghost use Rattle.smb_link.specs.Story.{Gains};
 ghost use Rattle.smb_link.specs.Came.{seen_by, Came};
-ghost use Rattle.fs_core.specs.Course.{Does};
+ghost use Rattle.fs_asks.specs.Course.{Does};
 ghost use Rattle.fs_top.specs.Course.{LooksSo};
 ghost use Rattle.fs_top.specs.Runs.{StaysOrLeaves, IsAhead, IsFound, IsFoundLine, IsToldAt};
 ghost use Rattle.fs_top.specs.Script.{wanted_at, brought, coming_of, to_come, lines_to_come, held_then, Brings, LineBrings, IsHeldOrOver, Keeps, is_failed_now, is_source, is_source_line, is_source_by};

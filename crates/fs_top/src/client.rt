@@ -5,7 +5,7 @@ ghost use Rattle.fs_top.specs.Runs.{IsAhead};
 ghost use Rattle.fs_top.specs.Script.{coming_of, to_come};
 
 use crate::ahead::Ahead;
-use fs_core::Wire;
+use fs_asks::Wire;
 use fs_types::Options;
 use std::alloc::Global;
 

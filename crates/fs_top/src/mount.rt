@@ -2,10 +2,10 @@
 
 ghost use Rattle.std.specs.Prelude.{◌≡◌, ◌≤◌, ◌+◌, IfOk, IsOk, length};
 ghost use Rattle.smb_head.specs.Header.{head_of};
-ghost use Rattle.fs_core.specs.Judged.{HasBody};
-ghost use Rattle.fs_core.specs.Asking.{IsAsideBody};
+ghost use Rattle.fs_asks.specs.Judged.{HasBody};
+ghost use Rattle.fs_asks.specs.Asking.{IsAsideBody};
 ghost use Rattle.smb_link.specs.Came.{seen_by};
-ghost use Rattle.fs_core.specs.Course.{Does, tally_of};
+ghost use Rattle.fs_asks.specs.Course.{Does, tally_of};
 ghost use Rattle.fs_top.specs.Runs.{IsReady, RestsOrLeaves, Joins};
 ghost use Rattle.fs_top.specs.RunEndings.{mount_end};
 ghost use Rattle.fs_top.specs.MountCourse.{MountedBy, SetsUpSession, AnswersChallenge, Greets, SetsUp, Authenticates, ConnectsTree};
@@ -14,7 +14,7 @@ ghost use Rattle.fs_top.specs.Course.{StepsSo, AsksSo, TellsSo, BothSo, LeavesSo
 
 use crate::client::{Client, PATIENCE};
 use crate::run_end::End;
-use fs_core::{ReplyFault, ask};
+use fs_asks::{ReplyFault, ask};
 use smb_base::{Bytes, NoMemory, Units};
 use smb_head::Request;
 use smb_link::{Clock, Link, LinkFail};

@@ -6,7 +6,7 @@ ghost use Rattle.fs_top.specs.RunEndings.{end_of, kind_text, refused_text, mount
 ghost use Rattle.fs_top.specs.declared.run_end.End.TheVariants as end;
 ghost use Rattle.smb_mount.specs.declared.fault.MountFault.TheVariants as fault;
 
-use fs_core::{ReplyFault, Stop};
+use fs_asks::{ReplyFault, Stop};
 use smb_base::{NoMemory, Status, Text};
 use smb_mount::MountFault;
 use std::alloc::Global;

@@ -6,18 +6,18 @@ ghost use Rattle.smb_link.specs.Stat.{kind_of, shown_mode, stat_answer};
 ghost use Rattle.smb_mount.specs.Requests.{charge_of};
 ghost use Rattle.fs_plain.specs.World.{mid_of};
 ghost use Rattle.fs_plain.specs.Replies.{command_of};
-ghost use Rattle.fs_core.specs.declared.reply_kind.ReplyFault.TheVariants as kind;
-ghost use Rattle.fs_core.specs.declared.wire.Stop.TheVariants as stop;
+ghost use Rattle.fs_asks.specs.declared.reply_kind.ReplyFault.TheVariants as kind;
+ghost use Rattle.fs_asks.specs.declared.wire.Stop.TheVariants as stop;
 ghost use Rattle.smb_link.specs.Came.{seen_by};
-ghost use Rattle.fs_core.specs.Written.{IsAlone};
-ghost use Rattle.fs_core.specs.Course.{Does, tally_of, IsCreated};
+ghost use Rattle.fs_asks.specs.Written.{IsAlone};
+ghost use Rattle.fs_asks.specs.Course.{Does, tally_of, IsCreated};
 ghost use Rattle.fs_top.specs.Runs.{run_options, IsReady, IsAhead, Exchanges, Answers, IsPathOnShare, IsStat, IsStatThere, IsStatOpened, IsStatOpen, IsStatKnown};
 ghost use Rattle.fs_top.specs.Course.{ConversesSo};
 ghost use Rattle.fs_top.specs.Progress.{reads_by, ReadsOn};
 ghost use Rattle.fs_top.specs.Talks.{Talks, ExchangesTo};
 
 use crate::client::{Client, OPTIONS, PATIENCE};
-use fs_core::{
+use fs_asks::{
     Awaited, ReplyFault, RequestPlace, Stop, close_message, create_message, query_message,
     send_request, take_reply,
 };

@@ -1,5 +1,5 @@
 use Rattle.smb_link.specs.Came.{seen_by}
-use Rattle.fs_core.specs.Course.{tally_of}
+use Rattle.fs_asks.specs.Course.{tally_of}
 use Rattle.fs_top.proofs.Courses.{asks_tells, asks_broken}
 use Rattle.fs_top.proofs.mount.aside_done.Goals as goal
 

@@ -2,7 +2,7 @@ use Rattle.smb_link.specs.Came.{seen_by}
 use Rattle.std.proofs.Common.{sym, subst, ℕ, List, Err}
 use Rattle.fs_top.specs.Runs.{RestsOrLeaves}
 use Rattle.fs_top.proofs.Mounting.{ask_leaves}
-use Rattle.fs_core.specs.Course.{Does, tally_of}
+use Rattle.fs_asks.specs.Course.{Does, tally_of}
 use Rattle.fs_top.specs.declared.run_end.End.{End}
 use Rattle.fs_top.specs.Course.{AsksSo}
 use Rattle.fs_top.proofs.Courses.{asks_so, asks_stop}

@@ -1,5 +1,5 @@
 use Rattle.fs_top.proofs.Steps.{rests_not}
-use Rattle.fs_core.specs.Course.{tally_of}
+use Rattle.fs_asks.specs.Course.{tally_of}
 use Rattle.fs_top.proofs.Mounting.{leave_asks}
 use Rattle.smb_link.specs.Came.{seen_by}
 use Rattle.fs_top.proofs.Courses.{broken_memory, both_as}

@@ -1,5 +1,5 @@
 use Rattle.smb_link.specs.Came.{seen_by}
-use Rattle.fs_core.specs.Course.{tally_of}
+use Rattle.fs_asks.specs.Course.{tally_of}
 use Rattle.fs_top.proofs.Steps.{rests_then}
 use Rattle.fs_top.proofs.Courses.{both_then, ready_few}
 use Rattle.fs_top.proofs.mount.leave_by.Goals as goal

@@ -1,4 +1,4 @@
-use Rattle.fs_core.specs.Course.{tally_of}
+use Rattle.fs_asks.specs.Course.{tally_of}
 use Rattle.fs_top.proofs.Steps.{rests_then}
 use Rattle.std.proofs.Common.{inl, inr}
 use Rattle.smb_link.specs.Came.{seen_by}

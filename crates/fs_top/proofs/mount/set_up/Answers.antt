@@ -1,8 +1,8 @@
-use Rattle.fs_core.specs.Course.{tally_of}
+use Rattle.fs_asks.specs.Course.{tally_of}
 use Rattle.fs_top.proofs.Mounting.{session_asks}
 use Rattle.smb_head.specs.declared.command.TheConstants.{SESSION_SETUP}
 use Rattle.smb_head.specs.declared.request.Request.{Request}
-use Rattle.fs_core.specs.Judged.{HasBody}
+use Rattle.fs_asks.specs.Judged.{HasBody}
 use Rattle.fs_top.proofs.Steps.{rests_leaves, rests_not}
 use Rattle.fs_top.proofs.MountBodies.{setup_sound, refused_end}
 use Rattle.smb_link.specs.Came.{seen_by}

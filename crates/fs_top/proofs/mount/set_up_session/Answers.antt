@@ -3,7 +3,7 @@ use Rattle.std.proofs.Common.{inl, inr, subst}
 use Rattle.smb_link.specs.Came.{seen_by}
 use Rattle.smb_mount.specs.declared.states.SetUp.{SetUp}
 use Rattle.smb_mount.specs.declared.states.SetUp.TheVariants as set_up
-use Rattle.fs_core.specs.Course.{Does, tally_of}
+use Rattle.fs_asks.specs.Course.{Does, tally_of}
 use Rattle.fs_top.specs.MountCourse.{SetsUp, SetsUpSession, AnswersChallenge, ConnectsTree}
 use Rattle.fs_top.specs.MountFailure.{SessionFails, SetUpFails, ChallengeFails, TreeFails}
 use Rattle.fs_top.proofs.Courses.{steps_then}

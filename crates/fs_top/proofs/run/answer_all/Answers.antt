@@ -7,7 +7,7 @@ use Rattle.fs_top.proofs.Running.{lines_start, lines_on, lines_fail, lines_break
 use Rattle.smb_link.specs.Came.{seen_by}
 use Rattle.std.proofs.Common.{ap, Ok, Err, Bool}
 use Rattle.std.specs.Prelude.{is_some}
-use Rattle.fs_core.specs.Course.{Does, tally_of}
+use Rattle.fs_asks.specs.Course.{Does, tally_of}
 use Rattle.fs_top.specs.Printing.{held_by}
 use Rattle.fs_top.specs.Course.{AnswersOneSo, AllAnswered, IsFrontOf, IsEndTold}
 use Rattle.fs_top.proofs.Scripted.{all_none, all_look, all_as, all_more, all_break, all_stop, memory_stop, end_told}

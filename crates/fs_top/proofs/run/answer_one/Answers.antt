@@ -6,7 +6,7 @@ use Rattle.fs_top.proofs.Running.{line_told, line_given_up, line_unbegun}
 use Rattle.smb_link.specs.Came.{seen_by}
 use Rattle.std.proofs.Common.{◌≡◌, ap, Bool, false}
 use Rattle.std.specs.Prelude.{is_some}
-use Rattle.fs_core.specs.Course.{Does, tally_of}
+use Rattle.fs_asks.specs.Course.{Does, tally_of}
 use Rattle.fs_top.specs.declared.run_end.End.{End}
 use Rattle.fs_top.specs.Printing.{held_by}
 use Rattle.fs_top.specs.Course.{ConversesSo, AnswersOneSo, GivesUpSo}

@@ -2,7 +2,7 @@ use Rattle.std.proofs.Common.{sym, subst, inl, inr, refl, [], Ok, Err, Option, â
 use Rattle.smb_link.specs.Came.{seen_by}
 use Rattle.smb_link.proofs.CameLaws.{came_none}
 use Rattle.fs_plain.proofs.Leaving.{gains_none}
-use Rattle.fs_core.specs.Course.{Does}
+use Rattle.fs_asks.specs.Course.{Does}
 use Rattle.fs_top.specs.Printing.{held_by}
 use Rattle.fs_top.specs.Course.{GivesUpBy}
 use Rattle.fs_top.proofs.Running.{gives, gives_nothing}

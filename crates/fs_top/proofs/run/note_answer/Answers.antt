@@ -1,7 +1,7 @@
 use Rattle.smb_link.specs.declared.mark.Mark.TheVariants as mark
 use Rattle.smb_link.specs.Came.{seen_by}
 use Rattle.smb_link.proofs.CameLaws.{came_mark}
-use Rattle.fs_core.proofs.Courses.{marked_ok, marked_err}
+use Rattle.fs_asks.proofs.Courses.{marked_ok, marked_err}
 use Rattle.fs_top.proofs.run.note_answer.Goals as goal
 
 pub returns-clause-told : goal.returns-clause-told

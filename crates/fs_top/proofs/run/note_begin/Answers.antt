@@ -2,7 +2,7 @@ use Rattle.smb_link.specs.declared.mark.Mark.TheVariants as mark
 use Rattle.fs_types.specs.declared.call.Call.TheVariants as call
 use Rattle.smb_link.specs.Came.{seen_by}
 use Rattle.smb_link.proofs.CameLaws.{came_mark}
-use Rattle.fs_core.proofs.Courses.{marked_ok, marked_err}
+use Rattle.fs_asks.proofs.Courses.{marked_ok, marked_err}
 use Rattle.fs_top.proofs.run.note_begin.Goals as goal
 
 pub returns-clause-told : goal.returns-clause-told

@@ -1,7 +1,7 @@
 use Rattle.std.proofs.Common.{◌≡◌, ◌∙◌, ap, subst, Bool, false, ℕ, []}
 use Rattle.std.specs.Prelude.{is_some}
 use Rattle.smb_link.specs.Came.{seen_by}
-use Rattle.fs_core.specs.Course.{Does, Tally, tally_of}
+use Rattle.fs_asks.specs.Course.{Does, Tally, tally_of}
 use Rattle.fs_top.specs.RunCourse.{fresh}
 use Rattle.fs_top.specs.declared.ahead.Ahead.{Ahead}
 use Rattle.fs_top.specs.Printing.{held_by}
@@ -12,9 +12,9 @@ use Rattle.fs_top.specs.MountCourse.{MountedBy}
 use Rattle.fs_top.specs.MountFailure.{MountFails}
 use Rattle.fs_top.specs.Course.{ServesSo}
 use Rattle.fs_top.proofs.Scripted.{mounts_serves, mounts_fails}
-use Rattle.fs_core.specs.declared.wire.Wire.{Wire}
+use Rattle.fs_asks.specs.declared.wire.Wire.{Wire}
 use Rattle.fs_plain.specs.Moves.{Leads, Leaves}
-use Rattle.fs_core.specs.Exchange.{resting}
+use Rattle.fs_asks.specs.Exchange.{resting}
 use Rattle.fs_top.specs.Runs.{run_options, foul_end}
 use Rattle.fs_top.proofs.Running.{leads_finishes, finishes_leaves}
 use Rattle.fs_top.proofs.run.run_joined.Goals as goal

@@ -4,14 +4,14 @@ use Rattle.smb_link.specs.Came.{seen_by}
 use Rattle.fs_top.specs.Script.{coming_of}
 use Rattle.fs_plain.specs.View.{no_view}
 use Rattle.fs_plain.proofs.Leaving.{leaves_now}
-use Rattle.fs_core.specs.Exchange.{resting}
+use Rattle.fs_asks.specs.Exchange.{resting}
 use Rattle.fs_top.specs.Printing.{held_by}
 use Rattle.fs_top.specs.Runs.{run_options}
 use Rattle.fs_top.specs.declared.run_end.End.TheVariants as end
 use Rattle.fs_top.proofs.SharePaths.{share_path-short}
 use Rattle.fs_top.proofs.Running.{leads_finishes, finishes_leaves}
 use Rattle.smb_mount.specs.Kept as kept
-use Rattle.fs_core.specs.Course.{Does}
+use Rattle.fs_asks.specs.Course.{Does}
 use Rattle.fs_top.specs.MountCourse.{start_of}
 use Rattle.fs_top.specs.RunCourse.{MountsSo}
 use Rattle.fs_top.proofs.Scripted.{start_is, run_unjoined, run_memory, run_joined}

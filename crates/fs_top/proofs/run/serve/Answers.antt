@@ -1,7 +1,7 @@
 use Rattle.std.proofs.Common.{sym, subst}
 use Rattle.std.specs.Prelude.{is_some}
 use Rattle.smb_link.specs.Came.{seen_by}
-use Rattle.fs_core.specs.Course.{Does, tally_of}
+use Rattle.fs_asks.specs.Course.{Does, tally_of}
 use Rattle.fs_top.specs.declared.run_end.End.{End}
 use Rattle.fs_top.specs.Printing.{held_by}
 use Rattle.fs_top.specs.Script.{to_come}

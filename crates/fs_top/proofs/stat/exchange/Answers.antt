@@ -5,11 +5,11 @@ use Rattle.std.proofs.Common.{◌≡◌, sym, ap, subst, ◌∙◌, ℕ}
 use Rattle.std.specs.Prelude.{is_some}
 use Rattle.smb_base.specs.declared.names.Mid.{Mid}
 use Rattle.fs_plain.specs.Replies.{command_of}
-use Rattle.fs_core.specs.declared.reply_kind.Awaited.{Awaited}
-use Rattle.fs_core.specs.Course.{Does, AnsweredSo, request_in, Tally, tally_of, with_request}
+use Rattle.fs_asks.specs.declared.reply_kind.Awaited.{Awaited}
+use Rattle.fs_asks.specs.Course.{Does, AnsweredSo, request_in, Tally, tally_of, with_request}
 use Rattle.fs_top.specs.Course.{patience}
 use Rattle.fs_top.proofs.Exchanging.{exchange_so, exchange_unread, exchange_unsent}
-use Rattle.fs_core.proofs.Created.{answered_created}
+use Rattle.fs_asks.proofs.Created.{answered_created}
 use Rattle.fs_top.specs.Progress.{reads_by}
 use Rattle.fs_top.proofs.Progressing.{reads_any}
 use Rattle.fs_top.proofs.stat.exchange.Goals as goal

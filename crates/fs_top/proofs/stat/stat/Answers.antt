@@ -1,6 +1,6 @@
 use Rattle.std.proofs.Common.{◌∙◌, sym, ap}
 use Rattle.smb_link.specs.Program.{Say}
-use Rattle.fs_core.specs.Course.{tally_of}
+use Rattle.fs_asks.specs.Course.{tally_of}
 use Rattle.fs_top.specs.Talks.{Talks}
 use Rattle.fs_top.proofs.Calling.{stat_refused}
 use Rattle.fs_top.proofs.Talking.{talks_now, talks_as}

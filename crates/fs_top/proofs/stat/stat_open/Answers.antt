@@ -1,4 +1,4 @@
-use Rattle.fs_core.specs.Course.{tally_of}
+use Rattle.fs_asks.specs.Course.{tally_of}
 use Rattle.fs_top.proofs.Exchanging.{before_taking, nothing_taken}
 use Rattle.fs_top.specs.Talks.{Talks, ExchangesTo}
 use Rattle.fs_top.proofs.Talking.{talks_on}
@@ -11,7 +11,7 @@ use Rattle.fs_top.specs.declared.ahead.Ahead.{Ahead}
 use Rattle.fs_top.proofs.Courses.{converses_starved, converses_memory, converses_stop, converses_after}
 use Rattle.fs_top.specs.Progress.{reads_by}
 use Rattle.fs_top.proofs.Progressing.{reads_from, reads_after}
-use Rattle.fs_core.specs.Foul.{foul_stop}
+use Rattle.fs_asks.specs.Foul.{foul_stop}
 use Rattle.fs_top.proofs.stat.stat_open.Goals as goal
 
 pub returns-in-Err-clause-answers : goal.returns-in-Err-clause-answers

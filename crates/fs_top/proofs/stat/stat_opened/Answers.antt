@@ -1,7 +1,7 @@
 use Rattle.std.proofs.Common.{◌∙◌, sym, ap, false}
 use Rattle.fs_types.specs.declared.answer.Answer.{Answer}
 use Rattle.smb_link.specs.Program.{Say}
-use Rattle.fs_core.specs.Course.{tally_of}
+use Rattle.fs_asks.specs.Course.{tally_of}
 use Rattle.fs_top.specs.Talks.{Talks}
 use Rattle.fs_top.proofs.Calling.{opened_refused}
 use Rattle.fs_top.proofs.Talking.{talks_now, talks_as}

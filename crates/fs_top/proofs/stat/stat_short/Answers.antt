@@ -1,4 +1,4 @@
-use Rattle.fs_core.specs.Course.{tally_of}
+use Rattle.fs_asks.specs.Course.{tally_of}
 use Rattle.fs_top.specs.Talks.{Talks}
 use Rattle.fs_top.specs.Runs.{IsStatThere}
 use Rattle.fs_top.proofs.Calling.{answers_nothing}

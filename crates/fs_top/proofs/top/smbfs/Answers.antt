@@ -1,7 +1,7 @@
 use Rattle.std.proofs.Common.{subst, Bool, ℕ, List, Option}
 use Rattle.std.specs.Prelude.{option_map}
 use Rattle.smb_link.specs.Came.{seen_by}
-use Rattle.fs_core.specs.Course.{Does}
+use Rattle.fs_asks.specs.Course.{Does}
 use Rattle.fs_top.specs.Script.{coming_of}
 use Rattle.fs_top.specs.MountCourse.{start_of}
 use Rattle.fs_top.specs.RunCourse.{RunSo, RunEnds}
