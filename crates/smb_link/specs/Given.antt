@@ -5,10 +5,12 @@ use Rattle.smb_link.specs.declared.list_link.Given.{Given}
 use Rattle.smb_link.specs.declared.list_link.Given.TheVariants as given
 use Rattle.smb_link.specs.declared.list_link.Front.{Front}
 use Rattle.smb_link.specs.declared.list_link.Front.TheVariants as front
+use Rattle.smb_link.specs.declared.places.Place.{Place}
 use Rattle.smb_link.specs.declared.faults.Got.{Got}
 use Rattle.smb_link.specs.declared.faults.Got.TheVariants as got
 
--- such a link: how many connects are still to fail, the turns that are left, whether a connection stands, its story and its counts
+-- such a link: how many connects are still to fail, the turns that are left, whether a connection stands, its story, its counts, and where it
+-- connected to
 pub record Giving : Type 0 where
   pub refused : ℕ
   pub turns : List Given
@@ -16,7 +18,9 @@ pub record Giving : Type 0 where
   pub story : List Event
   pub connect_faults : ℕ
   pub cuts : ℕ
+  pub own_cuts : ℕ
   pub quiets : ℕ
+  pub places : List Place
 
 -- a turn that is no empty piece
 abbrev pub gives : Given → Bool

@@ -3,6 +3,7 @@ pub mod Count
 pub mod Flow
 pub mod Given
 pub mod Memory
+pub mod Once
 pub mod Story
 pub mod Locals
 pub mod Program

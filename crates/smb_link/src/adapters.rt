@@ -1,15 +1,17 @@
 //! The real outside: a reader, a writer, a TCP connection and the machine's clock. These few lines are trusted to do what their
 //! names say: no contract can state which bytes the system gives or takes, so they tell nothing of content and only count.
 
-ghost use Rattle.std.specs.Prelude.{◌≡◌, ◌≤◌, ◌<◌, None, true, length};
+ghost use Rattle.std.specs.Prelude.{◌≡◌, ◌≤◌, ◌<◌, [], None, true, length};
 ghost use Rattle.std.specs.Option.{is_some};
 ghost use Rattle.smb_link.specs.Count.{counted};
 ghost use Rattle.smb_link.specs.Story.{IfBytes};
 
 use crate::faults::{Failed, Got, LinkFail};
 use crate::mark::Mark;
+use crate::places::PlaceList;
 use crate::traits::{Clock, Link, Sink, Source};
 use smb_base::NoMemory;
+use std::alloc::Global;
 use std::io::{ErrorKind, Read, Write};
 use std::net::{Net, OpenStream, TcpStream};
 use std::time::{Duration, Instant};
@@ -103,27 +105,35 @@ const STUCK_S: u64 = 30;
 /// that the other side does not take for 30 s has failed.
 #[derive(Drop)]
 pub struct TcpLink<N: Net> {
+    alloc: Global,
     net: N,
     stream: Option<N::Stream>,
     connect_faults: u64,
     cuts: u64,
+    own_cuts: u64,
     quiets: u64,
+    places: PlaceList,
 }
 
 impl<N: Net> TcpLink<N> {
     /// A link with no connection yet.
-    pub fn new(net: N) -> TcpLink<N>
+    pub fn new(alloc: Global, net: N) -> TcpLink<N>
         ensures stream { result.stream ≡ None }
         ensures connect_faults { result.connect_faults ≡ 0 }
         ensures cuts { result.cuts ≡ 0 }
+        ensures own_cuts { result.own_cuts ≡ 0 }
         ensures quiets { result.quiets ≡ 0 }
+        ensures places { result.places ≡ [] }
     {
         TcpLink {
+            alloc,
             net,
             stream: None,
             connect_faults: 0,
             cuts: 0,
+            own_cuts: 0,
             quiets: 0,
+            places: PlaceList::new(alloc),
         }
     }
 
@@ -132,7 +142,9 @@ impl<N: Net> TcpLink<N> {
         ensures stream { self.new.stream ≡ None }
         ensures connect_faults { self.new.connect_faults ≡ self.old.connect_faults }
         ensures cuts { self.new.cuts ≡ counted self.old.cuts true }
+        ensures own_cuts { self.new.own_cuts ≡ self.old.own_cuts }
         ensures quiets { self.new.quiets ≡ self.old.quiets }
+        ensures places { self.new.places ≡ self.old.places }
     {
         self.stream = None;
         self.cuts = self.cuts.saturating_add(1);
@@ -165,11 +177,19 @@ impl<N: Net> Link for TcpLink<N> {
 
     ghost cuts = { λ l. l.cuts };
 
+    ghost own_cuts = { λ l. l.own_cuts };
+
     ghost quiets = { λ l. l.quiets };
 
+    ghost places = { λ l. l.places };
+
     fn connect(&mut self, host: &str, port: u16) -> Result<(), LinkFail> {
+        if self.places.go(self.alloc, host, port).is_err() {
+            return Err(LinkFail::NoMemory);
+        }
         if self.stream.is_some() {
             self.cut();
+            self.own_cuts = self.own_cuts.saturating_add(1);
         }
         match open(&self.net, host, port) {
             Some(stream) => {
@@ -246,6 +266,8 @@ impl<C: std::time::Clock> HostClock<C> {
 }
 
 impl<C: std::time::Clock> Clock for HostClock<C> {
+    ghost told = { λ _. None };
+
     /// Milliseconds since the first reading; 0 where the machine does not tell.
     fn now(&mut self) -> u64 {
         let now = match Instant::now(&self.clock) {

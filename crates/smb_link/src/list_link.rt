@@ -4,11 +4,13 @@ ghost use Rattle.std.specs.Prelude.{◌≡◌, ◌≤◌, ◌<◌, ◌-◌, ◌&
 ghost use Rattle.smb_link.specs.declared.event.Event.TheVariants as event;
 ghost use Rattle.smb_link.specs.Count.{counted};
 ghost use Rattle.smb_link.specs.Given.{gives, front_of, turns_behind, turns_after, piece_of, GivesNext};
+ghost use Rattle.smb_link.specs.Once.{went, WentAfterConnect};
 ghost use Rattle.smb_link.specs.Story.{story_with, is_failed, connect_cuts, StandsAfterConnect, connect_events, send_events, receive_events, is_closed, is_quiet, IfBytes};
 
 use crate::event::{Event, EventList};
 use crate::faults::{Got, LinkFail};
 use crate::mark::Mark;
+use crate::places::PlaceList;
 use crate::traits::Link;
 use smb_base::{Bytes, NoMemory};
 use std::alloc::Global;
@@ -112,7 +114,9 @@ pub struct ListLink {
     story: EventList,
     connect_faults: u64,
     cuts: u64,
+    own_cuts: u64,
     quiets: u64,
+    places: PlaceList,
 }
 
 impl Model for ListLink {
@@ -121,7 +125,7 @@ impl Model for ListLink {
 
     ghost Value = { Giving };
 
-    ghost view = { λ l. record { refused = l.refused; turns = without_front l.at (drop l.next l.turns.items); stands = l.stands; story = l.story; connect_faults = l.connect_faults; cuts = l.cuts; quiets = l.quiets } };
+    ghost view = { λ l. record { refused = l.refused; turns = without_front l.at (drop l.next l.turns.items); stands = l.stands; story = l.story; connect_faults = l.connect_faults; cuts = l.cuts; own_cuts = l.own_cuts; quiets = l.quiets; places = l.places } };
 
     ghost invariant = { λ l. (l.next ≤ length l.turns.items) × IsWithinFirst l.at (drop l.next l.turns.items) × AllGive l.turns.items };
 }
@@ -129,7 +133,7 @@ impl Model for ListLink {
 impl ListLink {
     /// A link whose first `refused` connects fail and which then gives these turns. No connection stands yet.
     pub fn new(alloc: Global, refused: u32, turns: GivenList) -> ListLink
-        ensures { result ≡ record { refused = refused; turns = filter gives turns; stands = false; story = []; connect_faults = 0; cuts = 0; quiets = 0 } }
+        ensures { result ≡ record { refused = refused; turns = filter gives turns; stands = false; story = []; connect_faults = 0; cuts = 0; own_cuts = 0; quiets = 0; places = [] } }
     {
         let mut held = turns.held;
         drop_empty(&mut held);
@@ -143,7 +147,9 @@ impl ListLink {
             story: EventList::new(alloc),
             connect_faults: 0,
             cuts: 0,
+            own_cuts: 0,
             quiets: 0,
+            places: PlaceList::new(alloc),
         }
     }
 
@@ -175,6 +181,24 @@ impl ListLink {
         self.stands = false;
         self.cuts = self.cuts.saturating_add(1);
         Ok(())
+    }
+
+    /// Ends the connection that stands for another one. For want of memory nothing is changed.
+    fn leave(&mut self) -> Result<(), NoMemory>
+        ensures ok { OnOk result (self.new ≡ record self.old { stands = false; story = self.old.story ++ event.Cut ∷ []; cuts = counted self.old.cuts true; own_cuts = counted self.old.own_cuts true }) }
+        ensures err { OnErr result (self.new ≡ self.old) }
+    {
+        self.end()?;
+        self.own_cuts = self.own_cuts.saturating_add(1);
+        Ok(())
+    }
+
+    /// Tells the place of a connect. For want of memory nothing is changed.
+    fn go(&mut self, host: &str, port: u16) -> Result<(), NoMemory>
+        ensures ok { OnOk result (self.new ≡ record self.old { places = went (record { host = host.now; port = port }) self.old.places }) }
+        ensures err { OnErr result (self.new ≡ self.old) }
+    {
+        self.places.go(self.alloc, host, port)
     }
 
     /// Fails to connect, as it was told to. For want of memory nothing is changed.
@@ -306,21 +330,31 @@ impl Link for ListLink {
 
     ghost cuts = { λ l. l.cuts };
 
+    ghost own_cuts = { λ l. l.own_cuts };
+
     ghost quiets = { λ l. l.quiets };
 
-    fn connect(&mut self, _host: &str, _port: u16) -> Result<(), LinkFail>
+    ghost places = { λ l. l.places };
+
+    fn connect(&mut self, host: &str, port: u16) -> Result<(), LinkFail>
         ensures story { Some self.new.story ≡ story_with (Some self.old.story) (connect_events self.old.stands self.new.stands result) }
         ensures stands { StandsAfterConnect self.old.stands self.new.stands result }
         ensures faults { self.new.connect_faults ≡ counted self.old.connect_faults (is_failed result) }
         ensures cuts { self.new.cuts ≡ counted self.old.cuts (connect_cuts self.old.stands self.new.stands result) }
+        ensures own_cuts { self.new.own_cuts ≡ counted self.old.own_cuts (connect_cuts self.old.stands self.new.stands result) }
         ensures quiets { self.new.quiets ≡ self.old.quiets }
+        ensures places { WentAfterConnect (record { host = host.now; port = port }) result self.old.places self.new.places }
         ensures turns { self.new.turns ≡ self.old.turns }
         ensures refused { is_failed result ≡ true → 0 < self.old.refused }
         ensures refuses { 0 < self.old.refused → IsOk result → ⊥ }
         ensures left { self.new.refused ≡ self.old.refused - (if is_failed result then 1 else 0) }
     {
+        match self.go(host, port) {
+            Ok(()) => {}
+            Err(NoMemory) => return Err(LinkFail::NoMemory),
+        }
         if self.stands {
-            match self.end() {
+            match self.leave() {
                 Ok(()) => {}
                 Err(NoMemory) => return Err(LinkFail::NoMemory),
             }
@@ -343,7 +377,9 @@ impl Link for ListLink {
         ensures stands { self.new.stands ≡ (self.old.stands && not (is_failed result)) }
         ensures faults { self.new.connect_faults ≡ self.old.connect_faults }
         ensures cuts { self.new.cuts ≡ counted self.old.cuts (is_failed result) }
+        ensures own_cuts { self.new.own_cuts ≡ self.old.own_cuts }
         ensures quiets { self.new.quiets ≡ self.old.quiets }
+        ensures places { self.new.places ≡ self.old.places }
         ensures turns { self.new.turns ≡ self.old.turns }
         ensures refused { self.new.refused ≡ self.old.refused }
         ensures only { is_failed result ≡ true → self.old.stands ≡ false }
@@ -372,7 +408,9 @@ impl Link for ListLink {
         ensures stands { self.new.stands ≡ (self.old.stands && not (is_closed result)) }
         ensures faults { self.new.connect_faults ≡ self.old.connect_faults }
         ensures cuts { self.new.cuts ≡ counted self.old.cuts (is_closed result) }
+        ensures own_cuts { self.new.own_cuts ≡ self.old.own_cuts }
         ensures quiets { self.new.quiets ≡ counted self.old.quiets (is_quiet result) }
+        ensures places { self.new.places ≡ self.old.places }
         ensures refused { self.new.refused ≡ self.old.refused }
         ensures given { GivesNext self.old self.new (length buf.old) buf.new result }
     {

@@ -3,8 +3,10 @@
 
 ghost use Rattle.std.specs.Prelude.{◌≡◌, ℕ, ◌≤◌, ◌<◌, ◌&&◌, List, Option, IfOk, OnOk, IsTrue, Bool, is_err, not, length};
 ghost use Rattle.smb_link.specs.declared.event.Event.{Event};
+ghost use Rattle.smb_link.specs.declared.places.Place.{Place};
 ghost use Rattle.smb_link.specs.Count.{counted};
 ghost use Rattle.smb_link.specs.Flow.{left_after, GaveFirst, written_after, stalled};
+ghost use Rattle.smb_link.specs.Once.{WentAfterConnect, told_reading};
 ghost use Rattle.smb_link.specs.Story.{is_failed, connect_cuts, StandsAfterConnect, Gains, GainsByConnect, send_events, receive_events, mark_events, is_closed, is_quiet, IfBytes};
 
 use crate::faults::{Failed, Got, LinkFail};
@@ -49,8 +51,12 @@ pub trait Sink {
 
 /// The time.
 pub trait Clock {
-    /// Milliseconds since some start. Nothing is promised of them.
-    fn now(&mut self) -> u64;
+    /// What it read so far, the oldest first. A reading that is the same as the one before is told once.
+    ghost told: { Self → Option (List ℕ) };
+
+    /// Milliseconds since some start. Nothing is promised of them but that they are what the clock tells.
+    fn now(&mut self) -> u64
+        ensures told { told self.new ≡ told_reading result (told self.old) };
 }
 
 /// A connection to a server, one at a time, and the story that it tells. Each call adds its own events to the story; before them the
@@ -68,16 +74,24 @@ pub trait Link {
     /// How many connections ended: by a failed send, by a receive that found it closed, or by a connect in its place.
     ghost cuts: { Self → ℕ };
 
+    /// How many of these a connect made itself, since a connection stood.
+    ghost own_cuts: { Self → ℕ };
+
     /// How many receives waited in vain.
     ghost quiets: { Self → ℕ };
 
-    /// Makes a connection. One that stands is ended first.
+    /// Where the connects went, the oldest first. A place that is the same as the one before is told once.
+    ghost places: { Self → List Place };
+
+    /// Makes a connection. One that stands is ended first. The place is told before it is tried.
     fn connect(&mut self, host: &str, port: u16) -> Result<(), LinkFail>
         ensures story { GainsByConnect (stands self.old) (stands self.new) result (story self.old) (story self.new) }
         ensures stands { StandsAfterConnect (stands self.old) (stands self.new) result }
         ensures faults { connect_faults self.new ≡ counted (connect_faults self.old) (is_failed result) }
         ensures cuts { cuts self.new ≡ counted (cuts self.old) (connect_cuts (stands self.old) (stands self.new) result) }
-        ensures quiets { quiets self.new ≡ quiets self.old };
+        ensures own_cuts { own_cuts self.new ≡ counted (own_cuts self.old) (connect_cuts (stands self.old) (stands self.new) result) }
+        ensures quiets { quiets self.new ≡ quiets self.old }
+        ensures places { WentAfterConnect (record { host = host.now; port = port }) result (places self.old) (places self.new) };
 
     /// Sends a whole frame, its four bytes of length included. After a failure there is no connection. Want of memory sends
     /// nothing.
@@ -87,7 +101,9 @@ pub trait Link {
         ensures stands { stands self.new ≡ (stands self.old && not (is_failed result)) }
         ensures faults { connect_faults self.new ≡ connect_faults self.old }
         ensures cuts { cuts self.new ≡ counted (cuts self.old) (is_failed result) }
-        ensures quiets { quiets self.new ≡ quiets self.old };
+        ensures own_cuts { own_cuts self.new ≡ own_cuts self.old }
+        ensures quiets { quiets self.new ≡ quiets self.old }
+        ensures places { places self.new ≡ places self.old };
 
     /// Receives bytes into the front of the buffer, which is not empty. After `Closed` there is no connection. Want of memory
     /// takes nothing.
@@ -98,7 +114,9 @@ pub trait Link {
         ensures stands { stands self.new ≡ (stands self.old && not (is_closed result)) }
         ensures faults { connect_faults self.new ≡ connect_faults self.old }
         ensures cuts { cuts self.new ≡ counted (cuts self.old) (is_closed result) }
-        ensures quiets { quiets self.new ≡ counted (quiets self.old) (is_quiet result) };
+        ensures own_cuts { own_cuts self.new ≡ own_cuts self.old }
+        ensures quiets { quiets self.new ≡ counted (quiets self.old) (is_quiet result) }
+        ensures places { places self.new ≡ places self.old };
 
     /// Puts a mark into the story. It changes nothing else, and for want of memory adds none.
     fn mark(&mut self, mark: &Mark) -> Result<(), NoMemory>
@@ -106,5 +124,7 @@ pub trait Link {
         ensures stands { stands self.new ≡ stands self.old }
         ensures faults { connect_faults self.new ≡ connect_faults self.old }
         ensures cuts { cuts self.new ≡ cuts self.old }
-        ensures quiets { quiets self.new ≡ quiets self.old };
+        ensures own_cuts { own_cuts self.new ≡ own_cuts self.old }
+        ensures quiets { quiets self.new ≡ quiets self.old }
+        ensures places { places self.new ≡ places self.old };
 }

@@ -8,5 +8,7 @@ connect-tells c = record {
   stands = c.ensures.stands;
   faults = c.ensures.faults;
   cuts = c.ensures.cuts;
+  own_cuts = c.ensures.own_cuts;
   quiets = c.ensures.quiets;
+  places = c.ensures.places;
 }
