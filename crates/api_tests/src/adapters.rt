@@ -70,7 +70,7 @@ fn a_tcp_link_joins_sends_receives_waits_and_finds_the_end(rt: HostRuntime) {
     let Ok(net) = rt.clone() else {
         panic!(rt; "no runtime");
     };
-    let mut link = TcpLink::new(net);
+    let mut link = TcpLink::new(rt.alloc(), net);
     let mut buf = [0; 8];
     assert!(rt; link.mark(&Mark::End).is_ok());
     assert!(rt; matches!(link.receive(&mut buf), Got::Closed));

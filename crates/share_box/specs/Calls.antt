@@ -9,6 +9,7 @@ use Rattle.smb_link.specs.declared.faults.LinkFail.TheVariants as fail
 use Rattle.smb_link.specs.declared.faults.Got.{Got}
 use Rattle.smb_link.specs.declared.faults.Got.TheVariants as got
 use Rattle.smb_link.specs.declared.mark.Mark.{Mark}
+use Rattle.smb_link.specs.declared.places.Place.{Place}
 use Rattle.smb_link.specs.Count.{counted}
 use Rattle.smb_link.specs.Story.{is_of_share, is_failed, connect_cuts, StandsAfterConnect, Gains, GainsByConnect, join_events}
 use Rattle.share_spec.specs.Cut.{after_cut, after_join}
@@ -39,6 +40,12 @@ fresh_box room fold credits turns = record {
   cuts = 0;
   quiets = 0;
 }
+
+-- a box as a link: what it holds, how many connections a connect ended, and where the connects went
+pub record BoxSeen : Type 0 where
+  pub state : State
+  pub own_cuts : ℕ
+  pub places : List Place
 
 -- the connection ends, after these events
 abbrev pub ended : List Event → State → State

@@ -3,6 +3,7 @@
 ghost use Rattle.std.specs.Prelude.{◌≡◌, ◌≤◌, ◌<◌, ◌&&◌, ◌||◌, [], true, false, not, Some, IfOk, OnOk, OnErr, IsTrue, length};
 ghost use Rattle.smb_link.specs.declared.faults.Got.TheVariants as got;
 ghost use Rattle.smb_link.specs.Count.{counted};
+ghost use Rattle.smb_link.specs.Once.{WentAfterConnect};
 ghost use Rattle.smb_link.specs.Story.{is_failed, connect_cuts, StandsAfterConnect, Gains, GainsByConnect, send_events, receive_events, mark_events, is_closed, is_quiet, IfBytes};
 ghost use Rattle.fs_plain.specs.Honest.{IsHonest};
 ghost use Rattle.share_box.specs.Calls.{fresh_box, turns_in, ended, marked, Connects, Sends, Gives, Receives, is_want, is_want_of_bytes, as_link, as_got, Goes, GoesOn, GoesToConnect, GoesToJoin, Tries, Takes, left};
@@ -15,7 +16,7 @@ use crate::turns::{do_turn, next_turn, turns_at_connect};
 use crate::waiting::{TurnsToCome, Waiting};
 use share_spec::Share;
 use smb_base::NoMemory;
-use smb_link::{EventList, Got, Link, LinkFail, Mark};
+use smb_link::{EventList, Got, Link, LinkFail, Mark, PlaceList};
 use std::alloc::Global;
 use std::marker::Model;
 
@@ -26,15 +27,17 @@ use std::marker::Model;
 pub struct BoxLink {
     alloc: Global,
     state: State,
+    own_cuts: u64,
+    places: PlaceList,
 }
 
 impl Model for BoxLink {
-    ghost use Rattle.share_box.specs.declared.state.State.{State};
+    ghost use Rattle.share_box.specs.Calls.{BoxSeen};
     ghost use Rattle.share_box.specs.Truth.{IsFaithful};
 
-    ghost Value = { State };
+    ghost Value = { BoxSeen };
 
-    ghost view = { λ b. b.state };
+    ghost view = { λ b. record { state = b.state; own_cuts = b.own_cuts; places = b.places } };
 
     ghost invariant = { λ b. IsFaithful b.state };
 }
@@ -49,7 +52,7 @@ impl BoxLink {
         credits: u16,
         schedule: Schedule,
     ) -> Result<BoxLink, NoMemory>
-        ensures { IfOk result (λ b. b ≡ fresh_box room fold credits (turns_in schedule)) }
+        ensures { IfOk result (λ b. b ≡ record { state = fresh_box room fold credits (turns_in schedule); own_cuts = 0; places = [] }) }
     {
         let Schedule::List(turns) = schedule;
         let share = Share::new(alloc, room, fold)?;
@@ -68,13 +71,15 @@ impl BoxLink {
                 cuts: 0,
                 quiets: 0,
             },
+            own_cuts: 0,
+            places: PlaceList::new(alloc),
         })
     }
 
     /// Lends the story so far. It is one that an honest share with this room and this folding of names tells.
     pub fn story(&self) -> &EventList
-        ensures exact { result.now ≡ self.now.story }
-        ensures honest { IsHonest self.now.room self.now.fold self.now.story }
+        ensures exact { result.now ≡ self.now.state.story }
+        ensures honest { IsHonest self.now.state.room self.now.state.fold self.now.state.story }
     {
         &self.state.story
     }
@@ -117,6 +122,42 @@ fn connects(alloc: Global, b: &mut State) -> Result<bool, NoMemory>
         Ok(()) => try_join(alloc, b),
         Err(NoMemory) => Err(NoMemory),
     }
+}
+
+// A connect that tells its place first, while memory lasts.
+fn goes(
+    alloc: Global,
+    b: &mut State,
+    places: &mut PlaceList,
+    host: &str,
+    port: u16,
+) -> Result<bool, NoMemory>
+    ensures does { Connects b.old b.new (as_link result) }
+    ensures goes { GoesToConnect (as_link result) b.old b.new }
+    ensures keeps { Keeps result b.old b.new }
+    ensures places { WentAfterConnect (record { host = host.now; port = port }) (as_link result) places.old places.new }
+{
+    match places.go(alloc, host, port) {
+        Ok(()) => connects(alloc, b),
+        Err(NoMemory) => Err(NoMemory),
+    }
+}
+
+// Whether a connect with this answer ended the connection that stood.
+fn is_own_cut(stood: bool, stands: bool, done: &Result<bool, NoMemory>) -> bool
+    ensures { result ≡ connect_cuts stood stands (as_link done.now) }
+{
+    match done {
+        Ok(_) => stood,
+        Err(NoMemory) => stood && !stands,
+    }
+}
+
+// A count of what happens so.
+fn count(so_far: u64, so: bool) -> u64
+    ensures { result ≡ counted so_far so }
+{
+    if so { so_far.saturating_add(1) } else { so_far }
 }
 
 // A send, while memory lasts.
@@ -212,32 +253,42 @@ fn receives(alloc: Global, b: &mut State, buf: &mut [u8]) -> Result<Got, NoMemor
 }
 
 impl Link for BoxLink {
-    ghost story = { λ b. Some b.story };
+    ghost story = { λ b. Some b.state.story };
 
-    ghost stands = { λ b. b.share.connected };
+    ghost stands = { λ b. b.state.share.connected };
 
-    ghost connect_faults = { λ b. b.connect_faults };
+    ghost connect_faults = { λ b. b.state.connect_faults };
 
-    ghost cuts = { λ b. b.cuts };
+    ghost cuts = { λ b. b.state.cuts };
 
-    ghost quiets = { λ b. b.quiets };
+    ghost own_cuts = { λ b. b.own_cuts };
 
-    fn connect(&mut self, _host: &str, _port: u16) -> Result<(), LinkFail>
-        ensures story { GainsByConnect self.old.share.connected self.new.share.connected result (Some self.old.story) (Some self.new.story) }
-        ensures stands { StandsAfterConnect self.old.share.connected self.new.share.connected result }
-        ensures faults { self.new.connect_faults ≡ counted self.old.connect_faults (is_failed result) }
-        ensures cuts { self.new.cuts ≡ counted self.old.cuts (connect_cuts self.old.share.connected self.new.share.connected result) }
-        ensures quiets { self.new.quiets ≡ self.old.quiets }
-        ensures room { self.new.room ≡ self.old.room }
-        ensures fold { self.new.fold ≡ self.old.fold }
-        ensures does { self.old.dead ≡ false → Connects self.old self.new result }
-        ensures dies { self.new.dead ≡ (self.old.dead || is_want result) }
-        ensures dead { self.old.dead ≡ true → (is_want result ≡ true) × (self.new ≡ self.old) }
+    ghost quiets = { λ b. b.state.quiets };
+
+    ghost places = { λ b. b.places };
+
+    fn connect(&mut self, host: &str, port: u16) -> Result<(), LinkFail>
+        ensures story { GainsByConnect self.old.state.share.connected self.new.state.share.connected result (Some self.old.state.story) (Some self.new.state.story) }
+        ensures stands { StandsAfterConnect self.old.state.share.connected self.new.state.share.connected result }
+        ensures faults { self.new.state.connect_faults ≡ counted self.old.state.connect_faults (is_failed result) }
+        ensures cuts { self.new.state.cuts ≡ counted self.old.state.cuts (connect_cuts self.old.state.share.connected self.new.state.share.connected result) }
+        ensures own_cuts { self.new.own_cuts ≡ counted self.old.own_cuts (connect_cuts self.old.state.share.connected self.new.state.share.connected result) }
+        ensures quiets { self.new.state.quiets ≡ self.old.state.quiets }
+        ensures places { WentAfterConnect (record { host = host.now; port = port }) result self.old.places self.new.places }
+        ensures room { self.new.state.room ≡ self.old.state.room }
+        ensures fold { self.new.state.fold ≡ self.old.state.fold }
+        ensures does { self.old.state.dead ≡ false → Connects self.old.state self.new.state result }
+        ensures dies { self.new.state.dead ≡ (self.old.state.dead || is_want result) }
+        ensures dead { self.old.state.dead ≡ true → (is_want result ≡ true) × (self.new ≡ self.old) }
     {
         if self.state.dead {
             return Err(LinkFail::NoMemory);
         }
-        match connects(self.alloc, &mut self.state) {
+        let stood = self.state.share.connected;
+        let done = goes(self.alloc, &mut self.state, &mut self.places, host, port);
+        let cut = is_own_cut(stood, self.state.share.connected, &done);
+        self.own_cuts = count(self.own_cuts, cut);
+        match done {
             Ok(true) => Ok(()),
             Ok(false) => Err(LinkFail::Failed),
             Err(NoMemory) => {
@@ -248,17 +299,19 @@ impl Link for BoxLink {
     }
 
     fn send(&mut self, frame: &[u8]) -> Result<(), LinkFail>
-        ensures story { Gains (send_events frame.now result) (Some self.old.story) (Some self.new.story) }
-        ensures standing { OnOk result (IsTrue self.old.share.connected) }
-        ensures stands { self.new.share.connected ≡ (self.old.share.connected && not (is_failed result)) }
-        ensures faults { self.new.connect_faults ≡ self.old.connect_faults }
-        ensures cuts { self.new.cuts ≡ counted self.old.cuts (is_failed result) }
-        ensures quiets { self.new.quiets ≡ self.old.quiets }
-        ensures room { self.new.room ≡ self.old.room }
-        ensures fold { self.new.fold ≡ self.old.fold }
-        ensures does { self.old.dead ≡ false → Sends frame.now self.old self.new result }
-        ensures dies { self.new.dead ≡ (self.old.dead || is_want result) }
-        ensures dead { self.old.dead ≡ true → (is_want result ≡ true) × (self.new ≡ self.old) }
+        ensures story { Gains (send_events frame.now result) (Some self.old.state.story) (Some self.new.state.story) }
+        ensures standing { OnOk result (IsTrue self.old.state.share.connected) }
+        ensures stands { self.new.state.share.connected ≡ (self.old.state.share.connected && not (is_failed result)) }
+        ensures faults { self.new.state.connect_faults ≡ self.old.state.connect_faults }
+        ensures cuts { self.new.state.cuts ≡ counted self.old.state.cuts (is_failed result) }
+        ensures own_cuts { self.new.own_cuts ≡ self.old.own_cuts }
+        ensures quiets { self.new.state.quiets ≡ self.old.state.quiets }
+        ensures places { self.new.places ≡ self.old.places }
+        ensures room { self.new.state.room ≡ self.old.state.room }
+        ensures fold { self.new.state.fold ≡ self.old.state.fold }
+        ensures does { self.old.state.dead ≡ false → Sends frame.now self.old.state self.new.state result }
+        ensures dies { self.new.state.dead ≡ (self.old.state.dead || is_want result) }
+        ensures dead { self.old.state.dead ≡ true → (is_want result ≡ true) × (self.new ≡ self.old) }
     {
         if self.state.dead {
             return Err(LinkFail::NoMemory);
@@ -275,17 +328,19 @@ impl Link for BoxLink {
 
     fn receive(&mut self, buf: &mut [u8]) -> Got
         requires { 0 < length buf.old }
-        ensures bytes { IfBytes result (λ n. (1 ≤ n) × (n ≤ length buf.old) × IsTrue self.old.share.connected) }
-        ensures story { Gains (receive_events buf.new result) (Some self.old.story) (Some self.new.story) }
-        ensures stands { self.new.share.connected ≡ (self.old.share.connected && not (is_closed result)) }
-        ensures faults { self.new.connect_faults ≡ self.old.connect_faults }
-        ensures cuts { self.new.cuts ≡ counted self.old.cuts (is_closed result) }
-        ensures quiets { self.new.quiets ≡ counted self.old.quiets (is_quiet result) }
-        ensures room { self.new.room ≡ self.old.room }
-        ensures fold { self.new.fold ≡ self.old.fold }
-        ensures does { self.old.dead ≡ false → Receives (length buf.old) buf.new self.old self.new result }
-        ensures dies { self.new.dead ≡ (self.old.dead || is_want_of_bytes result) }
-        ensures dead { self.old.dead ≡ true → (result ≡ got.NoMemory) × (self.new ≡ self.old) }
+        ensures bytes { IfBytes result (λ n. (1 ≤ n) × (n ≤ length buf.old) × IsTrue self.old.state.share.connected) }
+        ensures story { Gains (receive_events buf.new result) (Some self.old.state.story) (Some self.new.state.story) }
+        ensures stands { self.new.state.share.connected ≡ (self.old.state.share.connected && not (is_closed result)) }
+        ensures faults { self.new.state.connect_faults ≡ self.old.state.connect_faults }
+        ensures cuts { self.new.state.cuts ≡ counted self.old.state.cuts (is_closed result) }
+        ensures own_cuts { self.new.own_cuts ≡ self.old.own_cuts }
+        ensures quiets { self.new.state.quiets ≡ counted self.old.state.quiets (is_quiet result) }
+        ensures places { self.new.places ≡ self.old.places }
+        ensures room { self.new.state.room ≡ self.old.state.room }
+        ensures fold { self.new.state.fold ≡ self.old.state.fold }
+        ensures does { self.old.state.dead ≡ false → Receives (length buf.old) buf.new self.old.state self.new.state result }
+        ensures dies { self.new.state.dead ≡ (self.old.state.dead || is_want_of_bytes result) }
+        ensures dead { self.old.state.dead ≡ true → (result ≡ got.NoMemory) × (self.new ≡ self.old) }
     {
         if self.state.dead {
             return Got::NoMemory;
@@ -300,15 +355,17 @@ impl Link for BoxLink {
     }
 
     fn mark(&mut self, mark: &Mark) -> Result<(), NoMemory>
-        ensures story { Gains (mark_events mark.now result) (Some self.old.story) (Some self.new.story) }
-        ensures stands { self.new.share.connected ≡ self.old.share.connected }
-        ensures faults { self.new.connect_faults ≡ self.old.connect_faults }
-        ensures cuts { self.new.cuts ≡ self.old.cuts }
-        ensures quiets { self.new.quiets ≡ self.old.quiets }
-        ensures room { self.new.room ≡ self.old.room }
-        ensures fold { self.new.fold ≡ self.old.fold }
-        ensures does { OnOk result ((self.old.dead ≡ false) × (self.new ≡ marked mark.now self.old)) }
-        ensures err { OnErr result (self.new ≡ record self.old { dead = true }) }
+        ensures story { Gains (mark_events mark.now result) (Some self.old.state.story) (Some self.new.state.story) }
+        ensures stands { self.new.state.share.connected ≡ self.old.state.share.connected }
+        ensures faults { self.new.state.connect_faults ≡ self.old.state.connect_faults }
+        ensures cuts { self.new.state.cuts ≡ self.old.state.cuts }
+        ensures own_cuts { self.new.own_cuts ≡ self.old.own_cuts }
+        ensures quiets { self.new.state.quiets ≡ self.old.state.quiets }
+        ensures places { self.new.places ≡ self.old.places }
+        ensures room { self.new.state.room ≡ self.old.state.room }
+        ensures fold { self.new.state.fold ≡ self.old.state.fold }
+        ensures does { OnOk result ((self.old.state.dead ≡ false) × (self.new ≡ record self.old { state = marked mark.now self.old.state })) }
+        ensures err { OnErr result (self.new ≡ record self.old { state = record self.old.state { dead = true } }) }
     {
         if self.state.dead {
             return Err(NoMemory);
