@@ -95,10 +95,11 @@ def smbclient(port, script, folder):
 
 
 class Relay:
-    """Takes one connection at a port of its own, hands its bytes on to another port of this machine and back, and keeps them."""
+    """Takes one connection at a port of its own, hands its bytes on to another port of this machine and back, and keeps them. What comes
+    back is handed on after a pause of so many seconds. `log` tells of each piece whether it was sent or got, in their order, and its bytes."""
 
-    def __init__(self, to):
-        self.to, self.sent, self.got = to, bytearray(), bytearray()
+    def __init__(self, to, pause=0):
+        self.to, self.pause, self.sent, self.got, self.log = to, pause, bytearray(), bytearray(), []
         self.listener = socket.socket()
         self.listener.bind(("127.0.0.1", 0))
         self.listener.settimeout(60)
@@ -129,7 +130,10 @@ class Relay:
         to.setsockopt(socket.IPPROTO_TCP, socket.TCP_NODELAY, 1)
         try:
             while data := source.recv(65536):
+                if kept is self.got:
+                    time.sleep(self.pause)
                 kept.extend(data)
+                self.log.append((kept is self.sent, data))
                 to.sendall(data)
             to.shutdown(socket.SHUT_WR)
         except OSError:

@@ -30,9 +30,9 @@ def frames(data):
 def parts(data):
     """The messages of a frame, by NextCommand."""
     while data:
-        following = int.from_bytes(data[20:24], "little")
-        yield data[:following] if following else data
-        data = data[following:] if following else b""
+        behind = following(data)
+        yield data[:behind] if behind else data
+        data = data[behind:] if behind else b""
 
 
 def status(data):
@@ -49,6 +49,16 @@ def message_id(data):
 
 def is_reply(data):
     return data[16] & 1 == 1
+
+
+def is_related(data):
+    """Whether a request has the flag of one that is related to the request before it."""
+    return data[16] & 4 == 4
+
+
+def following(data):
+    """Where the next message of the frame begins, or 0 (NextCommand)."""
+    return int.from_bytes(data[20:24], "little")
 
 
 def created_name(data):

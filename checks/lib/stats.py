@@ -1,19 +1,21 @@
 """`smbfs run` against a Samba server. Each printed answer has two readers, and neither is the program: the folder that the server serves,
 and the bytes of the server's reply, which a relay between the two keeps. Where the folder and the server differ (a directory's size and
-links, the read-only mark) the reply decides, and a capture read by tshark has to say the same of it."""
+links, the read-only mark) the reply decides, and a capture read by tshark has to say the same of it. A stat is three frames, or one frame of
+three requests. Behind come the same answers over all lanes, and what many stats cost."""
 import errno
 import os
-import resource
 import shutil
 import string
 import struct
 import subprocess
 import sys
 import tempfile
-import time
+import xml.etree.ElementTree as xml
 
+import lanes
 import peers
 import smb
+import times
 
 CHECK, PROGRAM = "stat", sys.argv[1]
 CHARACTERS = string.ascii_letters + string.digits + "_-"
@@ -29,9 +31,9 @@ THERE = {
 REFUSED = {"/none": smb.MISSING, "/none/below": smb.NO_PATH, "/one/below": smb.NO_PATH, "/closed/below": smb.DENIED}
 # the numbers of Linux for these statuses, as cifs.ko has them
 ERRORS = {smb.MISSING: errno.ENOENT, smb.NO_PATH: errno.ENOENT, smb.DENIED: errno.EACCES}
-SCRIPT = "".join(f"0 stat {path}\n" for path in [*THERE, *REFUSED])
+NAMES = {**THERE, **{path: path[1:] for path in REFUSED}}
+SCRIPT = "".join(f"0 stat {path}\n" for path in NAMES)
 READ_ONLY = 1  # FILE_ATTRIBUTE_READONLY (MS-FSCC 2.6)
-STATS, ROUNDS = 2000, 2
 
 faults = []
 
@@ -79,8 +81,8 @@ def cut(data):
 class Run:
     """A run through a relay: what it came to, and each request with its reply. Where `folder` is given, a capture of it lies there."""
 
-    def __init__(self, samba, share, script, folder=None):
-        relay, capture = peers.Relay(samba.port), None
+    def __init__(self, samba, share, script, folder=None, pause=0):
+        relay, capture = peers.Relay(samba.port, pause), None
         self.port, self.file = relay.port, None
         if folder:
             capture = peers.Capture(self.port, folder)
@@ -92,14 +94,17 @@ class Run:
             relay.end()
             if capture:
                 capture.end()
-        self.requests = cut(relay.sent)
+        self.requests, self.log = cut(relay.sent), relay.log
         replies = [part for part in cut(relay.got) if smb.status(part) != smb.PENDING]
         self.replies = {smb.message_id(part): part for part in replies}
         ids = [smb.message_id(part) for part in self.requests]
         if ids != list(range(len(ids))):
             fault(f"share {share}: the message ids are {ids}, and do not go up by one")
-        if [(smb.message_id(part), smb.command(part)) for part in replies] != [(smb.message_id(part), smb.command(part)) for part in self.requests]:
-            fault(f"share {share}: the replies are not one for each request, in order")
+        answered, asked = ([(smb.message_id(part), smb.command(part)) for part in parts] for parts in (replies, self.requests))
+        if sorted(answered) != asked:
+            fault(f"share {share}: the replies are not one for each request")
+        self.is_in_order = answered == asked
+        self.is_chained = any(smb.command(part) == smb.CREATE and smb.following(part) != 0 for part in self.requests)
 
 
 def information(reply):
@@ -122,47 +127,51 @@ def differs(line, path):
     """Whether the folder says something else of this path. The size and the links of a directory and the mode are not compared."""
     words, said = line.split(), os.stat(path)
     if os.path.isdir(path):
-        return words[2:3] + words[6:] != ["dir", str(said.st_ino)]
-    return words[2:4] + words[5:] != ["file", str(said.st_size), str(said.st_nlink), str(said.st_ino)]
+        return words[1:2] + words[5:] != ["dir", str(said.st_ino)]
+    return words[1:3] + words[4:] != ["file", str(said.st_size), str(said.st_nlink), str(said.st_ino)]
 
 
 def judge(samba, share, is_read_only, done):
     """Compares a run over the whole script with the server's replies and with the folder. `is_read_only` says by the manual page of the
-    server, smb.conf(5), which names have to be read-only."""
+    server, smb.conf(5), which names have to be read-only. The answers are given back, by their paths."""
     if faults:
         return None
-    commands = [smb.command(part) for part in done.requests]
-    if commands != smb.MOUNT + len(THERE) * smb.STAT + len(REFUSED) * [smb.CREATE] + smb.BYE:
+    commands, refused = [smb.command(part) for part in done.requests], smb.STAT if done.is_chained else [smb.CREATE]
+    if commands != smb.MOUNT + len(THERE) * smb.STAT + len(REFUSED) * refused + smb.BYE or not done.is_in_order:
         return fault(f"share {share}: {(done.status, done.printed[:200], done.complaint)}, commands {commands}")
-    wanted, at = [], len(smb.MOUNT)
-    for path, name in [*THERE.items(), *((path, path[1:]) for path in REFUSED)]:
+    wanted, at = {}, len(smb.MOUNT)
+    for path, name in NAMES.items():
         request, reply = done.requests[at], done.replies[at]
+        if done.is_chained and not lanes.is_chain(done.requests[at:at + 3]):
+            fault(f"share {share}: the requests for {path} are no chain")
         if smb.created_name(request) != name.replace("/", "\\"):
             fault(f"share {share}: the CREATE for {path} has the name {smb.created_name(request)}")
         if smb.status(reply) != REFUSED.get(path, 0):
             return fault(f"share {share}: the CREATE for {path} has the status {smb.status(reply):08X}")
-        number = len(wanted) + 1
         if path in REFUSED:
-            wanted.append(f"{number} err {ERRORS[REFUSED[path]]}")
-            at += 1
+            wanted[path] = f"err {ERRORS[REFUSED[path]]}"
+            at += len(refused)
             continue
         query, said, close = done.requests[at + 1], done.replies[at + 1], done.requests[at + 2]
-        if tuple(query[66:68]) != (1, 18) or reply[128:144] != query[88:104] or reply[128:144] != close[72:88]:
+        file = lanes.EVERY_BIT if done.is_chained else reply[128:144]
+        if tuple(query[66:68]) != (1, 18) or query[88:104] != file or close[72:88] != file:
             fault(f"share {share}: for {path} another class is asked for, or another file")
         if smb.status(said) != 0:
             return fault(f"share {share}: the QUERY_INFO for {path} has the status {smb.status(said):08X}")
         found = information(said)
-        wanted.append(f"{number} {answer(*found)}")
-        if differs(wanted[-1], os.path.join(samba.share, name)):
-            fault(f"share {share}: of {path} the server says {wanted[-1]}, and the folder {os.stat(os.path.join(samba.share, name))}")
+        wanted[path] = answer(*found)
+        if differs(wanted[path], os.path.join(samba.share, name)):
+            fault(f"share {share}: of {path} the server says {wanted[path]}, and the folder {os.stat(os.path.join(samba.share, name))}")
         if (found[0] & READ_ONLY != 0) != is_read_only(name):
             fault(f"share {share}: {path} has the attributes {found[0]:08X}")
         at += 3
-    for got, want in zip(done.printed.splitlines(), wanted):
+    lines = [f"{number} {text}" for number, text in enumerate(wanted.values(), 1)]
+    for got, want in zip(done.printed.splitlines(), lines):
         if got != want:
             fault(f"share {share}: {got!r} was printed where {want!r} was wanted")
-    if (done.status, done.printed, done.complaint) != (0, "\n".join(wanted) + "\n", ""):
+    if (done.status, done.printed, done.complaint) != (0, "\n".join(lines) + "\n", ""):
         fault(f"share {share}: status {done.status}, {len(done.printed)} bytes printed, {done.complaint!r}")
+    return wanted
 
 
 def tshark(file, port, only, *fields):
@@ -175,8 +184,19 @@ def tshark(file, port, only, *fields):
     return [line.split("\t") for line in done.stdout.splitlines()]
 
 
-def is_true(text):
-    return text in ("1", "True")
+def messages(file, port):
+    """What tshark shows of each message: the first text of each field, by its name."""
+    done = subprocess.run(["tshark", "-n", "-r", file, "-d", f"tcp.port=={port},nbss", "-Y", "smb2", "-T", "pdml"], capture_output=True,
+                          timeout=120)
+    found = []
+    for part in xml.fromstring(done.stdout).iter("proto"):
+        if part.get("name") == "smb2":
+            found.append(dict(reversed([(field.get("name"), field.get("show")) for field in part.iter("field")])))
+    return found
+
+
+def number_in(text):
+    return {"False": 0, "True": 1}[text] if text in ("False", "True") else int(text, 0)
 
 
 def bad_frames(file, port):
@@ -202,25 +222,28 @@ def packets(file, port, *sent):
 
 def judge_capture(done, folder):
     """What tshark says of a run over the whole script, beside what was read here."""
-    messages = tshark(done.file, done.port, "smb2", "smb2.flags.response", "smb2.cmd", "smb2.msg_id")
-    requests = [(int(kind), int(number)) for reply, kind, number in messages if not is_true(reply)]
-    replies = [(int(kind), int(number)) for reply, kind, number in messages if is_true(reply)]
-    calls, found = len(THERE) + len(REFUSED), len(THERE)
-    wanted = {smb.NEGOTIATE: 1, smb.SETUP: 2, smb.TREE: 1, smb.CREATE: calls, smb.QUERY: found, smb.CLOSE: found, smb.LEAVE: 1, smb.LOGOFF: 1}
-    counted = {kind: [each for each, _ in requests].count(kind) for kind in {each for each, _ in requests}}
+    found = messages(done.file, done.port)
+    read = [tuple(number_in(each[f"smb2.{name}"]) for name in ("cmd", "msg_id")) for each in found if not number_in(each["smb2.flags.response"])]
+    replies = [each for each in found if number_in(each["smb2.flags.response"])]
+    calls, there = len(NAMES), len(THERE)
+    asked = calls if done.is_chained else there
+    wanted = {smb.NEGOTIATE: 1, smb.SETUP: 2, smb.TREE: 1, smb.CREATE: calls, smb.QUERY: asked, smb.CLOSE: asked, smb.LEAVE: 1, smb.LOGOFF: 1}
+    counted = {kind: [each for each, _ in read].count(kind) for kind in {each for each, _ in read}}
     if counted != wanted:
         fault(f"tshark saw {counted} requests of each command, where {wanted} were sent")
-    if [number for _, number in requests] != list(range(sum(wanted.values()))) or replies != requests:
+    if [number for _, number in read] != list(range(sum(wanted.values()))) or \
+            [tuple(number_in(each[f"smb2.{name}"]) for name in ("cmd", "msg_id")) for each in replies] != read:
         fault("tshark saw message ids that do not go up by one, or other replies")
-    fields = ("smb2.file_attribute", "smb2.eof", "smb2.nlinks", "smb2.is_directory", "smb2.file_id")
-    read = [tuple(int(text, 0) for text in each)
-            for each in tshark(done.file, done.port, f"smb2.cmd == {smb.QUERY} && smb2.flags.response == 1", *fields)]
-    if read != [information(reply) for _, reply in sorted(done.replies.items()) if smb.command(reply) == smb.QUERY]:
+    fields = ("file_attribute", "eof", "nlinks", "is_directory", "file_id")
+    told = [tuple(number_in(each[f"smb2.{name}"]) for name in fields) for each in replies
+            if number_in(each["smb2.cmd"]) == smb.QUERY and number_in(each["smb2.nt_status"]) == 0]
+    if told != [information(reply) for _, reply in sorted(done.replies.items()) if smb.command(reply) == smb.QUERY and smb.status(reply) == 0]:
         fault("tshark reads something else of a file in the replies to QUERY_INFO")
     for bad in bad_frames(done.file, done.port):
         fault(f"tshark finds a bad frame: {bad}")
     # the filter finds something where there is something to find: a CREATE request whose name is cut off
     create = next(part for part in done.requests if smb.command(part) == smb.CREATE and smb.created_name(part))
+    create = create[:20] + bytes(4) + create[24:]
     file = os.path.join(folder, "broken")
     packets(file, done.port, smb.frame(create))
     good = bad_frames(file, done.port)
@@ -230,43 +253,42 @@ def judge_capture(done, folder):
     return sum(wanted.values())
 
 
-def timed(words, **how):
-    """How long it took, the processor time of the program alone, and what it came to."""
-    used, begin = resource.getrusage(resource.RUSAGE_CHILDREN), time.monotonic()
-    done = subprocess.run(words, capture_output=True, text=True, timeout=300, **how)
-    took, now = time.monotonic() - begin, resource.getrusage(resource.RUSAGE_CHILDREN)
-    return (took, now.ru_utime + now.ru_stime - used.ru_utime - used.ru_stime), done
+def number_of_lanes(samba, line):
+    """How many lanes the program has: 16, or 1 where it refuses the line of another one."""
+    said = run(samba.port, "share", "1 stat /one\n")
+    if said == (2, "fault 2 line 1\n", ""):
+        peers.say(CHECK, "the lanes' part is skipped, the program has one lane")
+        return 1
+    if said != (0, f"1 {line}\n", ""):
+        fault(f"a line of lane 1: {said}")
+    return lanes.LANES
 
 
-def requests_of_smbclient(samba, number):
-    relay = peers.Relay(samba.port)
-    relay.start()
-    try:
-        subprocess.run(peers.smbclient(relay.port, ";".join(number * ["allinfo one"]), samba.folder), stdin=subprocess.DEVNULL,
-                       capture_output=True, timeout=60)
-    finally:
-        relay.end()
-    return len(cut(relay.sent))
+def judge_lanes(samba, answers):
+    """Compares a run over all lanes with the answers of one lane. The replies are held back a little, so that all lanes are under way."""
+    lines = lanes.script(NAMES)
+    done = Run(samba, "share", "\n".join(lines), pause=lanes.PAUSE)
+    for text in lanes.faults(done, lines, NAMES, answers):
+        fault(f"{lanes.LANES} lanes: {text}")
+    tell(f"{len(done.printed.splitlines())} answers over {lanes.LANES} lanes are those of one lane, each where it may come")
+    said = run(samba.port, "share", "16 stat /one\n")
+    if said != (2, "fault 2 line 1\n", ""):
+        fault(f"a line of lane 16: {said}")
 
 
-def race(samba, line):
-    """Times 2,000 stats of one file and 2,000 times smbclient's `allinfo`, in turns, with the mounts and without a relay."""
-    ours, theirs = [], []
-    for _ in range(ROUNDS):
-        times, done = timed([PROGRAM, "run", "127.0.0.1", str(samba.port), "share"], input=STATS * "0 stat /one\n")
-        ours.append(times)
-        if (done.returncode, done.stdout, done.stderr) != (0, "".join(f"{n} {line}\n" for n in range(1, STATS + 1)), ""):
-            return fault(f"{STATS} stats: status {done.returncode}, {done.stdout[:200]!r}, {done.stderr!r}")
-        times, done = timed(peers.smbclient(samba.port, ";".join(STATS * ["allinfo one"]), samba.folder), stdin=subprocess.DEVNULL)
-        theirs.append(times)
-        if done.returncode != 0 or done.stdout.count("stream: [::$DATA], 1 bytes\n") != STATS:
-            return fault(f"smbclient: status {done.returncode}, {done.stdout[:200]!r}, {done.stderr[:200]!r}")
-    each = (requests_of_smbclient(samba, 11) - requests_of_smbclient(samba, 1)) / 10
-    show = [" and ".join(f"{took:.2f} s" for took, _ in times) + " (" + " and ".join(f"{used:.2f} s" for _, used in times) + " of a processor)"
-            for times in (ours, theirs)]
-    ratio = sum(took for took, _ in theirs) / sum(took for took, _ in ours)
-    peers.say(CHECK, f"{STATS} stats of 3 requests took {show[0]}, {STATS} times smbclient's allinfo of {each:g} requests {show[1]}: "
-              f"smbclient takes {ratio:.1f} times as long")
+def measure(samba, number, line, folder):
+    """What many stats cost, in one lane and in all."""
+    raw = times.built(folder)
+    if not raw:
+        peers.say(CHECK, "the raw client's part is skipped, no cc")
+    if not shutil.which("smbclient"):
+        peers.say(CHECK, "smbclient's part is skipped, there is none")
+    wrong = times.race(PROGRAM, raw, samba, number, line)
+    for each in sorted({1, number}):
+        times.system_calls(PROGRAM, samba, each, folder)
+    wrong = wrong or times.memory(PROGRAM, samba, number, line)
+    if wrong:
+        fault(wrong)
 
 
 def keeps_attributes(share):
@@ -301,7 +323,7 @@ def main(folder):
             if done.returncode != 0 or done.stderr:
                 fault(f"smbclient's setmode: {done.stdout}{done.stderr}")
         done = Run(samba, "share", SCRIPT, folder if shutil.which("tshark") else None)
-        judge(samba, "share", lambda name: name in marked, done)
+        answers = judge(samba, "share", lambda name: name in marked, done)
         if faults:
             return
         judge(samba, "mapped", lambda name: name in ("guarded", "guarded-directory"), Run(samba, "mapped", SCRIPT))
@@ -317,11 +339,11 @@ def main(folder):
             said = run(samba.port, share, script)
             if said != want:
                 fault(f"share {share}: {said} where {want} was wanted")
-        if shutil.which("smbclient"):
-            one = done.replies[len(smb.MOUNT) + 3 * list(THERE).index("/one") + 1]
-            race(samba, answer(*information(one)))
-        else:
-            peers.say(CHECK, "the times' part is skipped, no smbclient")
+        number = number_of_lanes(samba, answers["/one"])
+        if number > 1:
+            judge_lanes(samba, answers)
+        if not faults:
+            measure(samba, number, answers["/one"], folder)
     finally:
         if os.path.exists(os.path.join(samba.share, "closed")):
             os.chmod(os.path.join(samba.share, "closed"), 0o700)
