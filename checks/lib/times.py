@@ -13,8 +13,9 @@ import smb
 
 CHECK = "stat"
 STATS, ROUNDS, LANES = 2000, 5, 16
-# lines of a short run and of a long one, and what the memory may grow by from the one to the other, in KiB: less than six bytes a line
-FEW, MANY, GROWTH = 1000, 100000, 512
+# lines of a short run and of a long one, and what may grow from the one to the other: the memory by so many KiB, which is less than six bytes
+# a line, and the processor's time for a line so many times
+FEW, MANY, GROWTH, SLOWER = 1000, 100000, 512, 2
 LONGEST = 300  # seconds, of any run
 RAW = os.path.join(os.path.dirname(os.path.abspath(__file__)), "raw_stat.c")
 
@@ -42,6 +43,12 @@ def built(folder):
     return to if done.returncode == 0 else None
 
 
+def processor():
+    """The seconds of a processor that the processes took which are ended."""
+    used = resource.getrusage(resource.RUSAGE_CHILDREN)
+    return used.ru_utime + used.ru_stime
+
+
 class Client:
     """One that is timed: its name, its words, what it reads, and whether what it printed is right. `took` are the seconds of each run,
     `used` those of a processor."""
@@ -51,11 +58,10 @@ class Client:
 
     def run(self):
         """Runs it once more; what it came to, where that is wrong."""
-        before, begin = resource.getrusage(resource.RUSAGE_CHILDREN), time.monotonic()
+        before, begin = processor(), time.monotonic()
         done = subprocess.run(self.words, input=self.reads, capture_output=True, text=True, timeout=LONGEST)
         self.took.append(time.monotonic() - begin)
-        after = resource.getrusage(resource.RUSAGE_CHILDREN)
-        self.used.append(after.ru_utime + after.ru_stime - before.ru_utime - before.ru_stime)
+        self.used.append(processor() - before)
         if done.returncode != 0 or not self.is_right(done.stdout):
             return f"{self.name}: status {done.returncode}, {done.stdout[:200]!r}, {done.stderr[:200]!r}"
         return None
@@ -153,13 +159,13 @@ def system_calls(program, samba, lanes, folder):
 class Long:
     """A run over so many lines. When they are answered, and before its end, the memory is looked at: the most that the process had (VmHWM),
     in KiB. A last line makes it answer all before: `wait`, or, where there is one lane, one more stat. `each` is the time from an answer to
-    the next one."""
+    the next one, and `used` the processor's time for a line."""
 
     def __init__(self, program, samba, lanes, number):
         self.number, self.printed, self.times, self.peak = number, bytearray(), [], None
         self.answers = number if lanes > 1 else number + 1
         text = script(self.answers, lanes) + ("wait\n" if lanes > 1 else "")
-        self.answered = threading.Event()
+        self.answered, before = threading.Event(), processor()
         with subprocess.Popen(ours(program, samba.port), stdin=subprocess.PIPE, stdout=subprocess.PIPE) as process:
             watch = threading.Timer(LONGEST, process.kill)
             watch.start()
@@ -171,6 +177,7 @@ class Long:
             writer.join()
             self.status = process.wait()
             watch.cancel()
+        self.used = (processor() - before) / number
         self.each = (self.times[-1] - self.times[0]) / (number - 1) if len(self.times) > 1 else 0
 
     def write(self, to, text):
@@ -207,5 +214,7 @@ def memory(program, samba, lanes, line):
     if wrong:
         return wrong
     peers.say(CHECK, f"{MANY} lines beside {FEW}, {in_lanes(lanes)}: at most {many.peak} and {few.peak} KiB of memory, {many.each * 1e6:.0f} "
-              f"and {few.each * 1e6:.0f} µs a line")
+              f"and {few.each * 1e6:.0f} µs a line, {many.used * 1e6:.0f} and {few.used * 1e6:.0f} µs of a processor")
+    if many.used > SLOWER * few.used:
+        return f"a line takes {many.used / few.used:.1f} times as long"
     return f"the memory grows from {few.peak} to {many.peak} KiB" if many.peak > few.peak + GROWTH else None
