@@ -139,6 +139,8 @@ def judge(samba, share, is_read_only, done):
     commands, refused = [smb.command(part) for part in done.requests], smb.STAT if done.is_chained else [smb.CREATE]
     if commands != smb.MOUNT + len(THERE) * smb.STAT + len(REFUSED) * refused + smb.BYE or not done.is_in_order:
         return fault(f"share {share}: {(done.status, done.printed[:200], done.complaint)}, commands {commands}")
+    if done.is_chained and lanes.Flights(done.log, SCRIPT.splitlines()).early:
+        fault(f"share {share}: a call began before the one before it was answered")
     wanted, at = {}, len(smb.MOUNT)
     for path, name in NAMES.items():
         request, reply = done.requests[at], done.replies[at]

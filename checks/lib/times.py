@@ -216,5 +216,5 @@ def memory(program, samba, lanes, line):
     peers.say(CHECK, f"{MANY} lines beside {FEW}, {in_lanes(lanes)}: at most {many.peak} and {few.peak} KiB of memory, {many.each * 1e6:.0f} "
               f"and {few.each * 1e6:.0f} µs a line, {many.used * 1e6:.0f} and {few.used * 1e6:.0f} µs of a processor")
     if many.used > SLOWER * few.used:
-        return f"a line takes {many.used / few.used:.1f} times as long"
+        return f"a line takes the processor {many.used / few.used:.1f} times as long"
     return f"the memory grows from {few.peak} to {many.peak} KiB" if many.peak > few.peak + GROWTH else None
