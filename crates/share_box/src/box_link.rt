@@ -4,7 +4,7 @@ ghost use Rattle.std.specs.Prelude.{◌≡◌, ◌≤◌, ◌<◌, ◌&&◌, ◌
 ghost use Rattle.smb_link.specs.declared.faults.Got.TheVariants as got;
 ghost use Rattle.smb_link.specs.Count.{counted};
 ghost use Rattle.smb_link.specs.Once.{WentAfterConnect};
-ghost use Rattle.smb_link.specs.Story.{is_failed, connect_cuts, StandsAfterConnect, Gains, GainsByConnect, send_events, receive_events, mark_events, is_closed, is_quiet, IfBytes};
+ghost use Rattle.smb_link.specs.Story.{story_with, is_failed, connect_cuts, StandsAfterConnect, Gains, GainsByConnect, send_events, receive_events, mark_events, is_closed, is_quiet, IfBytes};
 ghost use Rattle.fs_plain.specs.Honest.{IsHonest};
 ghost use Rattle.share_box.specs.Calls.{fresh_box, turns_in, ended, marked, Connects, Sends, Gives, Receives, is_want, is_want_of_bytes, as_link, as_got, Goes, GoesOn, GoesToConnect, GoesToJoin, Tries, Takes, left};
 ghost use Rattle.share_box.specs.Truth.{Keeps};
@@ -356,6 +356,7 @@ impl Link for BoxLink {
 
     fn mark(&mut self, mark: &Mark) -> Result<(), NoMemory>
         ensures story { Gains (mark_events mark.now result) (Some self.old.state.story) (Some self.new.state.story) }
+        ensures alone { Some self.new.state.story ≡ story_with (Some self.old.state.story) (mark_events mark.now result) }
         ensures stands { self.new.state.share.connected ≡ self.old.state.share.connected }
         ensures faults { self.new.state.connect_faults ≡ self.old.state.connect_faults }
         ensures cuts { self.new.state.cuts ≡ self.old.state.cuts }

@@ -7,7 +7,7 @@ ghost use Rattle.smb_link.specs.declared.places.Place.{Place};
 ghost use Rattle.smb_link.specs.Count.{counted};
 ghost use Rattle.smb_link.specs.Flow.{left_after, GaveFirst, written_after, stalled};
 ghost use Rattle.smb_link.specs.Once.{WentAfterConnect, told_reading};
-ghost use Rattle.smb_link.specs.Story.{is_failed, connect_cuts, StandsAfterConnect, Gains, GainsByConnect, send_events, receive_events, mark_events, is_closed, is_quiet, IfBytes};
+ghost use Rattle.smb_link.specs.Story.{is_failed, connect_cuts, StandsAfterConnect, Gains, GainsByConnect, story_with, send_events, receive_events, mark_events, is_closed, is_quiet, IfBytes};
 
 use crate::faults::{Failed, Got, LinkFail};
 use crate::mark::Mark;
@@ -121,6 +121,7 @@ pub trait Link {
     /// Puts a mark into the story. It changes nothing else, and for want of memory adds none.
     fn mark(&mut self, mark: &Mark) -> Result<(), NoMemory>
         ensures story { Gains (mark_events mark.now result) (story self.old) (story self.new) }
+        ensures alone { story self.new ≡ story_with (story self.old) (mark_events mark.now result) }
         ensures stands { stands self.new ≡ stands self.old }
         ensures faults { connect_faults self.new ≡ connect_faults self.old }
         ensures cuts { cuts self.new ≡ cuts self.old }
