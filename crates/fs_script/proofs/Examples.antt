@@ -1,6 +1,6 @@
 -- Texts and lines, computed.
 use Rattle.std.proofs.Common.{◌≡◌, ℕ, ◌++◌, List, [], ◌∷◌, Option, None, Some, codes, refl, arith, map, replicate}
-use Rattle.std.specs.Fmt.{digits}
+use Rattle.std.specs.Fmt.{decimal, digits}
 use Rattle.hex.specs.Hex.{encode_with}
 use Rattle.fs_types.specs.declared.answer.Answer.{Answer}
 use Rattle.fs_types.specs.declared.answer.Answer.TheVariants as answer
@@ -11,7 +11,7 @@ use Rattle.fs_script.specs.declared.line.Line.TheVariants as line
 use Rattle.fs_script.specs.declared.line.LineFault.{LineFault}
 use Rattle.fs_script.specs.declared.line.LineFault.TheVariants.{Lane, Word, Path}
 use Rattle.fs_script.specs.Answers.{text_of, line_of}
-use Rattle.fs_script.specs.Lines.{IsLine, fault_of}
+use Rattle.fs_script.specs.Lines.{IsLine, lane_names, lane_of, fault_of}
 
 abbrev stat : Kind → ℕ → ℕ → ℕ → ℕ → Answer
 stat kind size mode links number =
@@ -86,25 +86,54 @@ a_last_line : line_of 18446744073709551615 (answer.Target (10 ∷ [])) ≡ codes
 unfolding digits
 a_last_line = refl
 
--- the first fault of each line, and none where it is a call, empty or a comment
+-- the lanes are named by their numbers
+abbrev lanes : List ℕ
+lanes = 0 ∷ 1 ∷ 2 ∷ 3 ∷ 4 ∷ 5 ∷ 6 ∷ 7 ∷ 8 ∷ 9 ∷ 10 ∷ 11 ∷ 12 ∷ 13 ∷ 14 ∷ 15 ∷ []
+
+each_name_of_a_lane : lane_names ≡ map decimal lanes
+unfolding digits
+each_name_of_a_lane = refl
+
+each_lane : map lane_of lane_names ≡ map (λ (lane : ℕ). Some lane) lanes
+each_lane = refl
+
+-- the first fault of each line, and none where it is a call, a pause, empty or a comment
 abbrev lines : List (List ℕ × Option LineFault)
 lines =
     (codes "", None)
     ∷ (codes "#", None)
     ∷ (codes "# 0 stat /a", None)
+    ∷ (codes "#wait", None)
+    ∷ (codes "wait", None)
     ∷ (codes "0 stat /", None)
     ∷ (codes "0 stat /a_B-9/z", None)
+    ∷ (codes "1 stat /a", None)
+    ∷ (codes "9 stat /a", None)
+    ∷ (codes "10 stat /a", None)
+    ∷ (codes "15 stat /", None)
     ∷ (codes " #", Some Lane)
     ∷ (codes " 0 stat /a", Some Lane)
-    ∷ (codes "1 stat /a", Some Lane)
     ∷ (codes "00 stat /a", Some Lane)
+    ∷ (codes "01 stat /a", Some Lane)
+    ∷ (codes "+1 stat /a", Some Lane)
+    ∷ (codes "-1 stat /a", Some Lane)
+    ∷ (codes "1a stat /a", Some Lane)
+    ∷ (codes "16 stat /a", Some Lane)
+    ∷ (codes "100 stat /a", Some Lane)
+    ∷ (codes "18446744073709551616 stat /a", Some Lane)
     ∷ (codes "stat /a", Some Lane)
-    ∷ (codes "wait", Some Lane)
-    ∷ (codes "1 open a", Some Lane)
+    ∷ (codes " wait", Some Lane)
+    ∷ (codes "wait ", Some Lane)
+    ∷ (codes "wait 1", Some Lane)
+    ∷ (codes "waits", Some Lane)
+    ∷ (codes "Wait", Some Lane)
+    ∷ (codes "16 open a", Some Lane)
     ∷ (codes "0", Some Word)
+    ∷ (codes "15", Some Word)
     ∷ (codes "0 ", Some Word)
+    ∷ (codes "0 wait", Some Word)
     ∷ (codes "0 open /a", Some Word)
-    ∷ (codes "0 open a", Some Word)
+    ∷ (codes "1 open a", Some Word)
     ∷ (codes "0 stat", Some Word)
     ∷ (codes "0 stat ", Some Word)
     ∷ (codes "0  stat /a", Some Word)
@@ -112,6 +141,7 @@ lines =
     ∷ (codes "0 stat /a ", Some Word)
     ∷ (codes "0 stat /a /b", Some Word)
     ∷ (codes "0 stat a", Some Path)
+    ∷ (codes "15 stat a", Some Path)
     ∷ (codes "0 stat /a.b", Some Path)
     ∷ (codes "0 stat /" ++ (0xC3 ∷ 0xA9 ∷ []), Some Path)
     ∷ (codes "0 stat /a" ++ (9 ∷ []), Some Path)
@@ -130,7 +160,13 @@ an_empty_line : IsLine line.Skip []
 an_empty_line = (omega arith, refl)
 
 a_call : IsLine (line.Call 0 (Stat (codes "/a_B-9/z"))) (codes "0 stat /a_B-9/z")
-a_call = (omega arith, record { lane_is = refl; words = codes "stat" ∷ codes "/a_B-9/z" ∷ []; call_is = (refl, refl); bytes_are = refl })
+a_call = (omega arith, record { name = codes "0"; named = refl; words = codes "stat" ∷ codes "/a_B-9/z" ∷ []; call_is = (refl, refl); bytes_are = refl })
 
 the_root : IsLine (line.Call 0 (Stat (codes "/"))) (codes "0 stat /")
-the_root = (omega arith, record { lane_is = refl; words = codes "stat" ∷ codes "/" ∷ []; call_is = (refl, refl); bytes_are = refl })
+the_root = (omega arith, record { name = codes "0"; named = refl; words = codes "stat" ∷ codes "/" ∷ []; call_is = (refl, refl); bytes_are = refl })
+
+the_last_lane : IsLine (line.Call 15 (Stat (codes "/a"))) (codes "15 stat /a")
+the_last_lane = (omega arith, record { name = codes "15"; named = refl; words = codes "stat" ∷ codes "/a" ∷ []; call_is = (refl, refl); bytes_are = refl })
+
+a_pause : IsLine line.Wait (codes "wait")
+a_pause = refl

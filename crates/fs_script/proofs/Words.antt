@@ -1,5 +1,6 @@
 -- The words of a line.
-use Rattle.std.proofs.Common.{◌≡◌, ◌≢◌, ◌<◌, ◌==◌, ℕ, true, false, inl, inr, List, [], ◌∷◌, length, get_or, Option, Some, None, MatchOption, refl, ap, subst, ◌∙◌, arith}
+use Rattle.std.proofs.Common.{◌≡◌, ◌≢◌, ◌<◌, ◌==◌, ℕ, true, false, inl, inr, List, [], ◌∷◌, ◌++◌, length, get_or, Option, Some, None, MatchOption}
+use Rattle.std.proofs.Common.{refl, sym, ap, ◌∙◌, arith}
 use Rattle.std.specs.List.{All, list_all, onto_first}
 use Rattle.std.proofs.lemmas.Bool.{and_parts}
 use Rattle.std.proofs.lemmas.Bool.Decides.{eqb_tells, nat_tests}
@@ -30,12 +31,23 @@ cut_words bs (Some x) h =
 pub some_words : (bs : List ℕ) → (length (words_of bs) == 0) ≡ false
 some_words bs = rw (length-slice_split (λ b. b == 0x20) bs) (grind (arith, nat_tests))
 
-byte_is_no_space : (b : ℕ) → is_path_byte b ≡ true → (b == 0x20) ≡ false
-byte_is_no_space b h = apart b (λ is. let no : false ≡ true = subst (λ (x : ℕ). is_path_byte x ≡ true) is h in grind arith)
+-- what is no byte of a path is none of its bytes
+pub byte_is_not : (c b : ℕ) → is_path_byte c ≡ false → is_path_byte b ≡ true → (b == c) ≡ false
+byte_is_not c b other byte = elim (eqb_tells b c) [
+  | inl is ↦ absurd (let both : true ≡ false = sym byte ∙ ap is_path_byte is.1 ∙ other in cc)
+  | inr not ↦ not.0
+]
 
 -- a path is one word
 pub path_word : (path : List ℕ) → list_all is_path_byte path ≡ true → words_of path ≡ path ∷ []
 path_word [] h = refl
 path_word (b ∷ path) h =
     let parts = and_parts (is_path_byte b) (list_all is_path_byte path) h in
-    rw (byte_is_no_space b parts.0) (ap (onto_first b) (path_word path parts.1))
+    rw (byte_is_not 0x20 b refl parts.0) (ap (onto_first b) (path_word path parts.1))
+
+-- a word of such bytes, and those behind its space
+pub word_then : (word rest : List ℕ) → list_all is_path_byte word ≡ true → words_of (word ++ 0x20 ∷ rest) ≡ word ∷ words_of rest
+word_then [] rest h = refl
+word_then (b ∷ word) rest h =
+    let parts = and_parts (is_path_byte b) (list_all is_path_byte word) h in
+    rw (byte_is_not 0x20 b refl parts.0) (ap (onto_first b) (word_then word rest parts.1))

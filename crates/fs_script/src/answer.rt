@@ -3,7 +3,8 @@
 ghost use Rattle.std.specs.Prelude.{◌≡◌, ◌++◌, IfOk, OnOk, codes, string_bytes};
 ghost use Rattle.std.specs.Fmt.{decimal};
 ghost use Rattle.std.specs.List.{flat_map};
-ghost use Rattle.fs_script.specs.Answers.{text_of, line_of, kind_text, kind_mark, mode_text, status_text, error_text, stat_text, data_text, entry_text, listing_text, escaped};
+ghost use Rattle.fs_script.specs.Answers.{text_of, line_of, kind_text, kind_mark, mode_text, status_text, error_text, stat_text, data_text};
+ghost use Rattle.fs_script.specs.Answers.{entry_text, listing_text, escaped};
 
 use crate::name::put_name;
 use fs_types::{Answer, Kind, Listing, StatOf};

@@ -1,7 +1,7 @@
 //! A line of a script.
 
 ghost use Rattle.std.specs.Prelude.{◌≡◌, ◌⊎◌, ◌++◌, ◌∷◌, [], true, IfOk, IfErr, IfSome, MatchOption, MatchResult, codes};
-ghost use Rattle.fs_script.specs.Lines.{IsLine, is_skip, is_path, words_of, fault_of, words_fault, call_fault, stat_fault};
+ghost use Rattle.fs_script.specs.Lines.{IsLine, is_skip, is_path, words_of, fault_of, words_fault, call_fault, stat_fault, lane_of, IsCallLine};
 
 use crate::path::is_path;
 use fs_types::Call;
@@ -14,7 +14,7 @@ use thiserror::Error;
 pub enum Line {
     /// A call, and the number of its lane.
     Call(u8, Call),
-    /// A pause. No line is one so far.
+    /// A pause: the lines behind it begin once no call runs.
     Wait,
     /// Nothing to do: an empty line, or one that begins with `#`.
     Skip,
@@ -52,15 +52,16 @@ const LONGEST: usize = 540_000;
 /// Reads a line of a script, given without its line feed. These lines come so far:
 ///
 /// - an empty line, or one that begins with `#`: [`Line::Skip`];
-/// - `0 stat PATH`: [`Call::Stat`] in lane 0. Single spaces stand between the words. PATH begins with `/`, has at most 255 bytes, and
-///   has only ASCII letters, digits, `_`, `-` and `/`.
+/// - `wait`: [`Line::Wait`];
+/// - `LANE stat PATH`: [`Call::Stat`] in lane LANE, a number from 0 to 15 in decimal without needless zeros. Single spaces stand between
+///   the words. PATH begins with `/`, has at most 255 bytes, and has only ASCII letters, digits, `_`, `-` and `/`.
 ///
 /// # Errors
 ///
 /// A line of more than 540,000 bytes is `TooLong`, whatever it says. Of any other the first word that is wrong decides: `Lane` where
-/// the first is not `0`; `Word` where the second is not `stat`, where the third is missing or empty, and where there is a fourth;
-/// `Path` where the third is no such path. `Number` and `Hex` do not come so far. `NoMemory` comes only where the line is that of a
-/// call.
+/// the first is no such number; `Word` where the second is not `stat`, where the third is missing or empty, and where there is a
+/// fourth; `Path` where the third is no such path. `Number` and `Hex` do not come so far. `NoMemory` comes only where the line is that
+/// of a call.
 pub fn read_line(alloc: Global, line: &str) -> Result<Line, LineFault>
     ensures line { IfOk result (λ l. IsLine l line.now) }
     ensures only_line { (l : Line) → IsLine l line.now → (result ≡ Ok l) ⊎ (result ≡ Err LineFault.NoMemory) }
@@ -74,19 +75,22 @@ pub fn read_line(alloc: Global, line: &str) -> Result<Line, LineFault>
     if is_skip(line) {
         return Ok(Line::Skip);
     }
-    match path_of(line) {
-        Ok(path) => stat(alloc, path),
+    if line == "wait" {
+        return Ok(Line::Wait);
+    }
+    match lane_and_path(line) {
+        Ok((lane, path)) => stat(alloc, lane, path),
         Err(fault) => Err(fault),
     }
 }
 
-// The line of a `stat` with this path.
-fn stat(alloc: Global, path: &str) -> Result<Line, LineFault>
-    ensures line { IfOk result (λ l. l ≡ Line.Call 0 (Call.Stat path.now)) }
+// The line of a `stat` with this path, in this lane.
+fn stat(alloc: Global, lane: u8, path: &str) -> Result<Line, LineFault>
+    ensures line { IfOk result (λ l. l ≡ Line.Call lane (Call.Stat path.now)) }
     ensures fault { IfErr result (λ fault. fault ≡ LineFault.NoMemory) }
 {
     match Text::of(alloc, path) {
-        Ok(path) => Ok(Line::Call(0, Call::Stat(path))),
+        Ok(path) => Ok(Line::Call(lane, Call::Stat(path))),
         Err(NoMemory) => Err(LineFault::NoMemory),
     }
 }
@@ -101,31 +105,28 @@ fn is_skip(line: &str) -> bool
     }
 }
 
-// The path in the line of a `stat`.
-fn path_of(line: &str) -> Result<&str, LineFault>
+// The lane and the path in the line of a `stat`.
+fn lane_and_path(line: &str) -> Result<(u8, &str), LineFault>
     ensures { MatchResult result
-        (λ path. (line.now ≡ codes "0 stat " ++ path.now) × (is_path path.now ≡ true))
+        (λ found. IsCallLine found.0 (Call.Stat found.1.now) line.now)
         (λ fault. words_fault (words_of line.now) ≡ Some fault) }
 {
     match cut(line) {
-        Some((lane, call)) => {
-            if lane == "0" {
-                path_of_call(call)
-            } else {
-                Err(LineFault::Lane)
-            }
-        }
-        None => {
-            if line == "0" {
-                Err(LineFault::Word)
-            } else {
-                Err(LineFault::Lane)
-            }
-        }
+        Some((word, call)) => match lane_of(word) {
+            Some(lane) => match path_of_call(call) {
+                Ok(path) => Ok((lane, path)),
+                Err(fault) => Err(fault),
+            },
+            None => Err(LineFault::Lane),
+        },
+        None => match lane_of(line) {
+            Some(_) => Err(LineFault::Word),
+            None => Err(LineFault::Lane),
+        },
     }
 }
 
-// The same, of what stands behind the lane.
+// The path in what stands behind the lane.
 fn path_of_call(call: &str) -> Result<&str, LineFault>
     ensures { MatchResult result
         (λ path. (call.now ≡ codes "stat " ++ path.now) × (is_path path.now ≡ true))
@@ -143,7 +144,7 @@ fn path_of_call(call: &str) -> Result<&str, LineFault>
     }
 }
 
-// The same, of what stands behind the name of the call.
+// The path in what stands behind the name of the call.
 fn path_of_stat(arguments: &str) -> Result<&str, LineFault>
     ensures { MatchResult result
         (λ path. (arguments.now ≡ path.now) × (is_path path.now ≡ true))
@@ -168,6 +169,31 @@ fn path_of_stat(arguments: &str) -> Result<&str, LineFault>
                 Err(LineFault::Path)
             }
         }
+    }
+}
+
+// The lane that a word names.
+fn lane_of(word: &str) -> Option<u8>
+    ensures { result ≡ lane_of word.now }
+{
+    match word {
+        "0" => Some(0),
+        "1" => Some(1),
+        "2" => Some(2),
+        "3" => Some(3),
+        "4" => Some(4),
+        "5" => Some(5),
+        "6" => Some(6),
+        "7" => Some(7),
+        "8" => Some(8),
+        "9" => Some(9),
+        "10" => Some(10),
+        "11" => Some(11),
+        "12" => Some(12),
+        "13" => Some(13),
+        "14" => Some(14),
+        "15" => Some(15),
+        _ => None,
     }
 }
 

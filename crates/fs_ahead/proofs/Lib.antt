@@ -1,0 +1,4 @@
+mod Coming
+pub mod Keeping
+pub mod Progressing
+pub mod Examples
