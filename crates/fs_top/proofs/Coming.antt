@@ -1,9 +1,9 @@
 -- The lines of a script, one after the other.
-use Rattle.std.proofs.Common.{◌≡◌, ◌∙◌, refl, sym, ap, subst, ℕ, ◌+◌, ◌<◌, ◌==◌, List, [], ◌∷◌, ◌++◌, length, Bool, true, false, cond, IfSome, Option, Some, None, Result, Ok, Err, arith}
-use Rattle.std.specs.Prelude.{IfOk, option_map, nat_le, nat_lt, IsUtf8, codes, slice_index, slice_index_or, ◌&&◌}
-use Rattle.std.specs.List.{onto_first, list_all, join_with_byte}
+use Rattle.std.proofs.Common.{◌≡◌, ◌∙◌, refl, sym, ap, subst, ℕ, ◌+◌, ◌<◌, ◌==◌, List, [], ◌∷◌, length, Bool, true, false, cond, IfSome, Option, Some, None, Result, Ok, Err, arith}
+use Rattle.std.specs.Prelude.{IfOk, option_map, nat_lt, IsUtf8, codes, slice_index_or}
+use Rattle.std.specs.List.{onto_first}
 use Rattle.std.specs.Str.{is_utf8}
-use Rattle.std.proofs.lemmas.Bool.{cond-true, cond-false, and_parts, false_from_ne_true}
+use Rattle.std.proofs.lemmas.Bool.{cond-true, cond-false, false_from_ne_true}
 use Rattle.std.proofs.lemmas.Bool.Decides.{nat_tests}
 use Rattle.std.proofs.lemmas.Str.{IsUtf8-from_is_utf8, is_utf8-from_IsUtf8}
 use Rattle.smb_base.specs.declared.names.NoMemory.{NoMemory}
@@ -16,14 +16,13 @@ use Rattle.fs_types.specs.declared.call.Call.{Call}
 use Rattle.fs_types.specs.declared.call.Call.TheVariants as call
 use Rattle.fs_script.specs.declared.line.Line.{Line}
 use Rattle.fs_script.specs.declared.line.Line.TheVariants as said
-use Rattle.fs_script.specs.Lines.{longest, is_skip, is_path, is_path_byte, words_of, fault_of, IsLine}
-use Rattle.fs_script.proofs.Words.{path_word}
-use Rattle.fs_script.proofs.Faults.{line_has_none}
+use Rattle.fs_script.specs.Lines.{longest, lane_of, fault_of, IsLine}
+use Rattle.fs_script.proofs.Faults.{line_has_none, stat_parts}
 use Rattle.fs_top.specs.declared.ahead.CallOrOver.{CallOrOver}
 use Rattle.fs_top.specs.declared.ahead.CallOrOver.TheVariants as found
 use Rattle.fs_top.specs.declared.ahead.Over as overs
 use Rattle.fs_top.specs.declared.ahead.Over.TheVariants as over
-use Rattle.fs_top.specs.Script.{lines_of, LineWants, Nothing, Stat, Refused, wanted_unless, wanted_by, wanted_at, greatest, calls_then, over_then, calls_from, over_from, Coming, coming_behind, coming_from, coming_ahead, held_then, unless_over, lines_to_come, brought, LineBrings, is_source_line, is_source_by}
+use Rattle.fs_top.specs.Script.{lines_of, LineWants, Nothing, Stat, Refused, wanted_in, wanted_unless, wanted_by, wanted_at, greatest, calls_then, over_then, calls_from, over_from, Coming, coming_behind, coming_from, coming_ahead, held_then, unless_over, lines_to_come, brought, LineBrings, is_source_line, is_source_by}
 
 first_at : (is : Bool) (b : ℕ) (bs : List ℕ) → (0 < length bs → lines_of bs ≡ first_line bs ∷ lines_of (behind bs))
     → cond is ([] ∷ lines_of bs) (onto_first b (lines_of bs)) ≡ cond is [] (b ∷ first_line bs) ∷ lines_of (cond is bs (behind bs))
@@ -186,50 +185,45 @@ line_no_source number line (Ok x) is = ap is_source_line is ∙ no_source (wante
 below_greatest : (number : ℕ) (line : List ℕ) (w : LineWants) → number < greatest → wanted_by line ≡ w → wanted_at number line ≡ w
 below_greatest number line w small is = cond-true _ _ _ (less number small) ∙ is
 
+-- what a line with no fault asks for
+abbrev said_by : List ℕ → LineWants
+said_by line = wanted_unless None line
+
 -- a line with no fault asks for what it says
-with_no_fault : (line : List ℕ) → IsUtf8 line → fault_of line ≡ None
-    → wanted_by line ≡ cond (is_skip line) Nothing (Stat (slice_index_or (words_of line) 2 []))
+with_no_fault : (line : List ℕ) → IsUtf8 line → fault_of line ≡ None → wanted_by line ≡ said_by line
 with_no_fault line utf8 none = cond-true _ _ _ (is_utf8-from_IsUtf8 line utf8) ∙ ap (λ (f : Option LineFault). wanted_unless f line) none
+
+-- a line that is read asks for what it says
+brings_said : (number : ℕ) (line shown : List ℕ) (l said : Line) (w : LineWants) → number < greatest → shown ≡ line → IsUtf8 shown
+    → l ≡ said → IsLine l shown → (IsLine said shown → said_by shown ≡ w) → brought w number ≡ brought (wanted_at number line) number
+brings_said number line shown l said w small same utf8 l_is is says =
+    let line_is : IsLine said shown = subst (λ (k : Line). IsLine k shown) l_is is in
+    ap (λ (v : LineWants). brought v number)
+    (sym (below_greatest number shown w small (with_no_fault shown utf8 (line_has_none said shown line_is) ∙ says line_is)))
+    ∙ ap (λ (t : List ℕ). brought (wanted_at number t) number) same
 
 pub skip_brings : (number : ℕ) (line shown : List ℕ) (l : Line) → number < greatest → shown ≡ line → IsUtf8 shown → l ≡ said.Skip → IsLine l shown
     → None ≡ brought (wanted_at number line) number
 skip_brings number line shown l small same utf8 l_is is =
-    let skip : IsLine said.Skip shown = subst (λ (k : Line). IsLine k shown) l_is is in
-    ap (λ (w : LineWants). brought w number)
-    (sym (below_greatest number shown Nothing small
-    (with_no_fault shown utf8 (line_has_none said.Skip shown skip) ∙ cond-true _ _ _ skip.1)))
-    ∙ ap (λ (t : List ℕ). brought (wanted_at number t) number) same
+    brings_said number line shown l said.Skip Nothing small same utf8 l_is is (λ skip. cond-true _ _ _ skip.1)
 
-stat_words : (path : List ℕ) → is_path path ≡ true → words_of (codes "0 stat " ++ path) ≡ codes "0" ∷ codes "stat" ∷ path ∷ []
-stat_words path is =
-    ap (λ (w : List (List ℕ)). codes "0" ∷ codes "stat" ∷ w)
-    (path_word path (and_parts (slice_index path 0 == 0x2F && nat_le (length path) 255) (list_all is_path_byte path) is).1)
+pause_said : (line : List ℕ) → line ≡ codes "wait" → said_by line ≡ Refused
+pause_said line is = rw is refl
 
-starts_a_word : (b : ℕ) (bs : List ℕ) → (b == 0x23) ≡ false → is_skip (b ∷ bs) ≡ false
-starts_a_word b bs h = grind (arith, nat_tests)
+pub pause_brings : (number : ℕ) (line shown : List ℕ) (l : Line) → number < greatest → shown ≡ line → IsUtf8 shown → l ≡ said.Wait → IsLine l shown
+    → Some (found.Over (over.Line number)) ≡ brought (wanted_at number line) number
+pause_brings number line shown l small same utf8 l_is is =
+    brings_said number line shown l said.Wait Refused small same utf8 l_is is (λ pause. pause_said shown pause)
 
-stat_line : (line path : List ℕ) → line ≡ codes "0 stat " ++ path → is_path path ≡ true
-    → cond (is_skip line) Nothing (Stat (slice_index_or (words_of line) 2 [])) ≡ Stat path
-stat_line line path is good =
-    rw is (cond-false _ _ _ (starts_a_word 48 (codes " stat " ++ path) refl) ∙ ap (λ (w : List (List ℕ)). Stat (slice_index_or w 2 [])) (stat_words path good))
-
-stat_text : (line path : List ℕ) (words : List (List ℕ)) → line ≡ join_with_byte 0x20 (codes "0" ∷ words) → words ≡ codes "stat" ∷ path ∷ []
-    → line ≡ codes "0 stat " ++ path
-stat_text line path words is words_are = is ∙ ap (λ (w : List (List ℕ)). join_with_byte 0x20 (codes "0" ∷ w)) words_are
-
-call_brings_at : (number lane : ℕ) (line path : List ℕ) → number < greatest → IsUtf8 line → IsLine (said.Call lane (call.Stat path)) line
-    → Some (found.Call (record { number = number; lane = lane; path = path })) ≡ brought (wanted_at number line) number
-call_brings_at number lane line path small utf8 is =
-    let wanted : wanted_by line ≡ Stat path =
-    with_no_fault line utf8 (line_has_none (said.Call lane (call.Stat path)) line is)
-    ∙ stat_line line path (stat_text line path is.1.words is.1.bytes_are is.1.call_is.0) is.1.call_is.1 in
-    ap (λ (l : ℕ). Some (found.Call (record { number = number; lane = l; path = path }))) is.1.lane_is
-    ∙ ap (λ (w : LineWants). brought w number) (sym (below_greatest number line (Stat path) small wanted))
+call_said : (lane : ℕ) (path line : List ℕ) → IsLine (said.Call lane (call.Stat path)) line → said_by line ≡ wanted_in (Some lane) path
+call_said lane path line is =
+    let s = stat_parts lane path line is.1 in
+    cond-false _ _ _ s.no_skip
+    ∙ (ap (λ (w : List (List ℕ)). wanted_in (lane_of (slice_index_or w 0 [])) (slice_index_or w 2 [])) s.words
+    ∙ ap (λ (o : Option ℕ). wanted_in o path) is.1.named)
 
 pub call_brings : (number lane : ℕ) (line shown path : List ℕ) (l : Line) (x : Call) → number < greatest → shown ≡ line → IsUtf8 shown
-    → l ≡ said.Call lane x → x ≡ call.Stat path → IsLine l shown
-    → Some (found.Call (record { number = number; lane = lane; path = path })) ≡ brought (wanted_at number line) number
+    → l ≡ said.Call lane x → x ≡ call.Stat path → IsLine l shown → brought (wanted_in (Some lane) path) number ≡ brought (wanted_at number line) number
 call_brings number lane line shown path l x small same utf8 l_is x_is is =
-    call_brings_at number lane shown path small utf8
-    (subst (λ (y : Call). IsLine (said.Call lane y) shown) x_is (subst (λ (k : Line). IsLine k shown) l_is is))
-    ∙ ap (λ (t : List ℕ). brought (wanted_at number t) number) same
+    brings_said number line shown l (said.Call lane (call.Stat path)) (wanted_in (Some lane) path) small same utf8
+    (l_is ∙ ap (said.Call lane) x_is) is (call_said lane path shown)

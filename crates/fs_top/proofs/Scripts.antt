@@ -37,3 +37,16 @@ no_text = refl
 a_comment : wanted_by (35 ∷ 195 ∷ 188 ∷ []) ≡ Nothing
 unfolding is_utf8 chars encode_utf8
 a_comment = refl
+
+-- lines in other lanes and a pause are refused
+another_lane : coming_of (codes "15 stat /\n") ≡ record { calls = []; over = over.Line 1 }
+unfolding is_utf8 chars encode_utf8
+another_lane = refl
+
+no_lane : wanted_by (codes "16 stat /") ≡ Refused
+unfolding is_utf8 chars encode_utf8
+no_lane = refl
+
+a_pause : coming_of (codes "0 stat /\nwait\n0 stat /a\n") ≡ record { calls = record { number = 1; lane = 0; path = codes "/" } ∷ []; over = over.Line 2 }
+unfolding is_utf8 chars encode_utf8
+a_pause = refl

@@ -5,7 +5,7 @@ use Rattle.std.specs.List.{onto_first}
 use Rattle.std.specs.Str.{is_utf8}
 use Rattle.fs_lines.specs.Told.{Reading, ahead}
 use Rattle.fs_script.specs.declared.line.LineFault.{LineFault}
-use Rattle.fs_script.specs.Lines.{is_skip, words_of, fault_of}
+use Rattle.fs_script.specs.Lines.{is_skip, lane_of, words_of, fault_of}
 use Rattle.fs_top.specs.declared.ahead.Ahead.{Ahead}
 use Rattle.fs_top.specs.declared.ahead.ScriptCall.{ScriptCall}
 use Rattle.fs_top.specs.declared.ahead.CallOrOver.{CallOrOver}
@@ -26,10 +26,17 @@ pub data LineWants : Type 0 where
   Stat : List ℕ → LineWants
   Refused : LineWants
 
--- an empty line and a comment ask for nothing; the path of a call is the third word of its line
+-- calls run in lane 0 alone: a line in another lane is refused, and a pause, which names none
+abbrev pub wanted_in : Option ℕ → List ℕ → LineWants
+wanted_in None path = Refused
+wanted_in (Some lane) path = if lane == 0 then Stat path else Refused
+
+-- an empty line and a comment ask for nothing; any other has its lane as its first word, and the path of its call as its third
 abbrev pub wanted_unless : Option LineFault → List ℕ → LineWants
 wanted_unless (Some fault) line = Refused
-wanted_unless None line = if is_skip line then Nothing else Stat (slice_index_or (words_of line) 2 [])
+wanted_unless None line =
+    if is_skip line then Nothing
+    else wanted_in (lane_of (slice_index_or (words_of line) 0 [])) (slice_index_or (words_of line) 2 [])
 
 -- a line that is not UTF-8, is too long or is outside the grammar is refused
 abbrev pub wanted_by : List ℕ → LineWants

@@ -9,7 +9,7 @@ ghost use Rattle.smb_link.specs.Came.{seen_by, Came};
 ghost use Rattle.fs_asks.specs.Course.{Does};
 ghost use Rattle.fs_top.specs.Course.{LooksSo};
 ghost use Rattle.fs_top.specs.Runs.{StaysOrLeaves, IsAhead, IsFound, IsFoundLine, IsToldAt};
-ghost use Rattle.fs_top.specs.Script.{wanted_at, brought, coming_of, to_come, lines_to_come, held_then, Brings, LineBrings, IsHeldOrOver, Keeps, is_failed_now, is_source, is_source_line, is_source_by};
+ghost use Rattle.fs_top.specs.Script.{wanted_in, wanted_at, brought, coming_of, to_come, lines_to_come, held_then, Brings, LineBrings, IsHeldOrOver, Keeps, is_failed_now, is_source, is_source_line, is_source_by};
 
 use fs_lines::{Lines, NextLine};
 use fs_script::{Line, LineFault, read_line};
@@ -167,7 +167,7 @@ fn next_line<S: Source>(
     }
 }
 
-// What a line with this number brings. The line with the greatest number is refused.
+// What a line with this number brings. A pause is refused, and so is the line with the greatest number.
 fn call_of_line(alloc: Global, number: u64, text: &Text) -> Result<Option<CallOrOver>, NoMemory>
     ensures at { IfOk result (λ found. IfSome found (IsToldAt number)) }
     ensures brings { IfOk result (λ found. found ≡ brought (wanted_at number text.now) number) }
@@ -176,15 +176,24 @@ fn call_of_line(alloc: Global, number: u64, text: &Text) -> Result<Option<CallOr
         return Ok(Some(CallOrOver::Over(Over::Line(number))));
     }
     match read_line(alloc, text.as_str()) {
-        Ok(Line::Call(lane, Call::Stat(path))) => {
-            Ok(Some(CallOrOver::Call(ScriptCall { number, lane, path })))
-        }
+        Ok(Line::Call(lane, Call::Stat(path))) => Ok(Some(found_stat(number, lane, path))),
         Ok(Line::Call(_, _)) => Ok(Some(CallOrOver::Over(Over::Line(number)))),
+        Ok(Line::Wait) => Ok(Some(CallOrOver::Over(Over::Line(number)))),
         Ok(Line::Skip) => Ok(None),
-        Ok(Line::Wait) => Ok(None),
         Err(LineFault::NoMemory) => Err(NoMemory),
         Err(_) => Ok(Some(CallOrOver::Over(Over::Line(number)))),
     }
+}
+
+// What the line of a `stat` brings. Calls run in lane 0 alone: a line in another lane is refused.
+fn found_stat(number: u64, lane: u8, path: Text) -> CallOrOver
+    ensures at { IsToldAt number result }
+    ensures brings { Some result ≡ brought (wanted_in (Some lane) path) number }
+{
+    if lane == 0 {
+        return CallOrOver::Call(ScriptCall { number, lane, path });
+    }
+    CallOrOver::Over(Over::Line(number))
 }
 
 // Puts the mark of the script's end into the story.
