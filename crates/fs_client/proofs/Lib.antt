@@ -23,3 +23,5 @@ pub mod SpelledLaws
 pub mod Ids
 mod Unmarked
 pub mod Judging
+pub mod Commands
+pub mod Readiness

@@ -61,6 +61,9 @@ itself n = search rules
 pub equal : (a b : ℕ) → a ≡ b → (a == b) ≡ true
 equal a b is = search rules
 
+pub same_number : (a b : ℕ) → (a == b) ≡ true → a ≡ b
+same_number a b is = search rules
+
 pub turned : (a b : ℕ) → (a == b) ≡ false → (b == a) ≡ false
 turned a b is = search rules
 

@@ -9,3 +9,4 @@ pub mod Spelled
 pub mod Mount
 pub mod May
 pub mod Sane
+pub mod Ready

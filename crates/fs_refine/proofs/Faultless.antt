@@ -44,18 +44,20 @@ use Rattle.fs_client.specs.View.{View}
 use Rattle.fs_client.specs.Asked.{behind_it, left_by}
 use Rattle.fs_client.specs.Looks.{is_early, went, all_looked, landed_owed}
 use Rattle.fs_client.specs.Owing.{IsShare, IsDueTo, IsDueAside, IsDue, AreDue}
+use Rattle.fs_client.specs.Ready.{awaited, AreWhole}
 use Rattle.fs_client.specs.Sane.{IsSent, Sane}
-use Rattle.fs_client.proofs.Lists.{none_some, some_is, itself, turned, found, found_but, found_map}
+use Rattle.fs_client.proofs.Lists.{none_some, some_is, itself, same_number, turned, found, found_but, found_map}
 use Rattle.fs_client.proofs.Flights.{it_mid, it_message, left_is}
-use Rattle.fs_client.proofs.Landing.{InTurn, all_left}
+use Rattle.fs_client.proofs.Landing.{InTurn}
+use Rattle.fs_client.proofs.Commands.{share_command, aside_command}
+use Rattle.fs_client.proofs.Readiness.{went_whole}
 use Rattle.fs_client.proofs.Bodies.{error_is, create_agrees, close_agrees, query_read, asides_agree}
 use Rattle.fs_client.proofs.Keeping.{done, reply_is, aside_is}
 use Rattle.fs_refine.specs.Related.{Related}
-use Rattle.fs_refine.specs.Faultless.{awaited, AreFaultless, AreWhole}
+use Rattle.fs_refine.specs.Faultless.{AreFaultless}
 use Rattle.fs_refine.proofs.Taking.{IsWell, look_keeps, well_looked}
 use Rattle.fs_refine.proofs.Changing.{well}
-use Rattle.fs_refine.proofs.Getting.{same_number, pays_looked, paid}
-use Rattle.fs_refine.proofs.Commands.{share_command, aside_command}
+use Rattle.fs_refine.proofs.Getting.{pays_looked, paid}
 
 -- a request in flight is found among those that are awaited
 test_is : (a b : ℕ) → is_eq (nat_cmp a b) ≡ (a == b)
@@ -177,9 +179,6 @@ record One (v0 w : View) (part : List ℕ) (l : Result Taken TakeFault) : Type 0
 pub record IsFit (v : View) : Type 0 where
   pub next : v.next ≤ no_request
   pub whole : AreWhole v.flights
-
-pub went_whole : (x : Sent) (reply : Rep) (v : View) → AreWhole v.flights → AreWhole (went x reply v).flights
-went_whole x reply v whole = all_left (λ (y : Sent). untold y.message ≡ Untold.Nothing) x reply v.flights (λ y is. ap untold (it_message x reply y) ∙ is) whole
 
 fit_went : (v : View) (x : Sent) (reply : Rep) → Sane v → InTurn v.flights x reply → IsFit v → IsFit (went x reply v)
 fit_went v x reply sane turn fit = record {

@@ -35,7 +35,7 @@ use Rattle.fs_client.specs.View.{Setting, View}
 use Rattle.fs_client.specs.After.{made_whole}
 use Rattle.fs_client.specs.Looks.{awaited_with, landed_by, without, looked_reply, looked_as, looked_for, looked, all_looked, answered_aside, landed_owed}
 use Rattle.fs_client.specs.Owing.{taken, IsShare, IsDueTo, IsDueAside, IsDue, AreDue}
-use Rattle.fs_client.proofs.Lists.{none_some, all_of, found}
+use Rattle.fs_client.proofs.Lists.{none_some, same_number, all_of, found}
 use Rattle.fs_client.proofs.Steps.{gets}
 use Rattle.fs_client.proofs.Taken.{got_commutes}
 use Rattle.fs_refine.specs.Calls.{IsGiven, AreCalls, all_described}
@@ -53,9 +53,6 @@ second false b c is = absurd (false≢true is)
 first : (a b : Bool) → (a && b) ≡ true → a ≡ true
 first true b is = refl
 first false b is = absurd (false≢true is)
-
-pub same_number : (a b : ℕ) → (a == b) ≡ true → a ≡ b
-same_number a b is = search rules
 
 answers_mid : (mid : Mid) (q : List ℕ) (head : Head) → answers mid q head ≡ true → head.mid.0 ≡ mid.0
 answers_mid mid q head is = same_number head.mid.0 mid.0 (second (has head.flags.0 1) (head.mid.0 == mid.0) (head.command == command_of q) is)

@@ -15,6 +15,6 @@ pub mod Kept
 pub mod Ends
 pub mod BrokenOff
 mod Chained
-pub mod Commands
 pub mod Faultless
 pub mod Fair
+mod Whole

@@ -1,5 +1,5 @@
 -- How a run ends: the share as it is left, the answers of calls that a broken-off run closes, and the frames that it did without.
-use Rattle.std.specs.Prelude.{◌≡◌, ◌⊎◌, ◌≤◌, ◌==◌, true, false, not, IsSomeAnd, List, [], ◌∷◌}
+use Rattle.std.specs.Prelude.{◌≡◌, ◌⊎◌, ℕ, ◌≤◌, ◌==◌, true, false, not, IsSomeAnd, List, [], ◌∷◌, map}
 use Rattle.std.specs.List.{list_all}
 use Rattle.fs_types.specs.declared.answer.Answer.{Answer}
 use Rattle.share_spec.specs.declared.opens.Open.{Open}
@@ -46,3 +46,7 @@ IsThrifty st c e = Unit {0}
 abbrev pub AreThrifty : Setting → Client → List Event → Type 0
 AreThrifty st c [] = Unit {0}
 AreThrifty st c (e ∷ events) = IsThrifty st c e × AreThrifty st (after st c e) events
+
+-- the answers with this error number that close calls, in the order of beginning
+abbrev pub closings : ℕ → List Item → List Event
+closings number items = map (λ (i : Item). event.Marked (mark.Answer i.number (of_errno number))) items

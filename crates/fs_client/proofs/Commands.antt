@@ -26,7 +26,7 @@ use Rattle.share_spec.specs.State.{has}
 use Rattle.fs_plain.specs.Wire.{units_in}
 use Rattle.fs_plain.specs.Requests.{WireRequest, wire_request, share_request, asked_lease, create_with, create_asked, close_asked, is_query, query_asked, is_aside, by_command, asked_with}
 use Rattle.fs_plain.specs.Replies.{command_of}
-use Rattle.fs_refine.proofs.Getting.{same_number}
+use Rattle.fs_client.proofs.Lists.{same_number}
 
 none_some : (w : WireRequest) → None ≡ Some w → ⊥
 none_some w is = search rules
