@@ -10,7 +10,8 @@ returns-in-Ok-Call-default-Stat-clause-brings c =
     let other = c.if-number-eq18446744073709551615.false in
     let small : c.args.number < greatest = omega arith in
     c.found_stat.ensures.brings
-    ∙ call_brings c.args.number a.lane c.args.text.now c.as_str.result.now a.path a.field-0 a.field-0-1 small c.as_str.ensures c.as_str.utf8 a.field-0-is a.field-0-1-is a.ensures.line
+    ∙ call_brings c.args.number a.lane c.args.text.now c.as_str.result.now a.path a.field-0 a.field-0-1 small c.as_str.ensures c.as_str.utf8
+    a.field-0-is a.field-0-1-is a.ensures.line
 
 pub returns-in-Ok-Wait-clause-brings : goal.returns-in-Ok-Wait-clause-brings
 returns-in-Ok-Wait-clause-brings c =
