@@ -1,0 +1,14 @@
+use Rattle.std.proofs.Common.{arith}
+use Rattle.std.proofs.lemmas.Result.{on_ok_weaker}
+use Rattle.fs_core.proofs.Composed.{if_err}
+use Rattle.fs_core.proofs.Putting.{puts_then, stops_then}
+use Rattle.fs_core.proofs.machine.Core.go_on_answered.Goals as goal
+
+pub returns-in-Ok-clause-puts : goal.returns-in-Ok-clause-puts
+returns-in-Ok-clause-puts c =
+    on_ok_weaker c.go_on_sent.result
+    (puts_then 3 3 4 c.args.self.now c.send_all.new.self c.go_on_sent.new.self (omega arith) (omega arith) c.in-Ok.ensures.puts) c.go_on_sent.ensures.puts
+
+pub returns-in-Ok-clause-err : goal.returns-in-Ok-clause-err
+returns-in-Ok-clause-err c =
+    if_err c.go_on_sent.result (λ f. stops_then 3 3 c.args.self.now c.send_all.new.self f c.in-Ok.ensures.puts) c.go_on_sent.ensures.err

@@ -1,0 +1,7 @@
+use Rattle.std.proofs.Common.{rules}
+use Rattle.std.proofs.lemmas.Result.{on_ok_weaker}
+use Rattle.fs_core.proofs.MarkingGoing.{now_tells}
+use Rattle.fs_core.proofs.machine.Core.note_time.Goals as goal
+
+pub returns-clause-tells : goal.returns-clause-tells
+returns-clause-tells c = on_ok_weaker c.put.result (λ is. now_tells c.args.self.now c.put.new.self c.args.time (search rules)) c.put.ensures.ok

@@ -1,0 +1,11 @@
+pub mod Seen
+pub mod Kept
+pub mod Parts
+pub mod Path
+pub mod Fits
+pub mod Event
+pub mod Steps
+pub mod Asks
+pub mod Written
+pub mod Start
+pub mod Going
