@@ -1,13 +1,10 @@
 -- Parts of an event, one behind the other: what is so of their ends.
-use Rattle.std.proofs.Common.{rules, arith, ◌≡◌, ◌∙◌, refl, sym, ap, subst, ℕ, zero, suc, ◌+◌, ◌<◌, ◌≤◌, ◌==◌, Bool, true, false, not, if◌then◌else◌, List, [], ◌∷◌, ◌++◌, length, Option, Some, None, Result, Ok, Err}
+use Rattle.std.proofs.Common.{rules, arith, ◌≡◌, ◌∙◌, refl, ap, subst, ℕ, zero, suc, ◌+◌, ◌<◌, ◌≤◌, ◌==◌, Bool, true, false, not, if◌then◌else◌, List, [], ◌∷◌, ◌++◌, length, Option, Some, None, Result, Ok, Err}
 use Rattle.std.specs.Prelude.{IfErr, filter, option_map, slice_get}
 use Rattle.smb_head.specs.declared.request.Request.{Request}
 use Rattle.smb_head.specs.declared.first.TheConstants.{MAX_FRAME}
-use Rattle.smb_mount.specs.declared.facts.Facts.{Facts}
 use Rattle.smb_mount.specs.Requests.{tree_disconnect, logoff}
-use Rattle.smb_mux.specs.Sending.{costs, room_of}
-use Rattle.smb_link.specs.Program.{Query, Close, Own}
-use Rattle.fs_client.specs.Spelled.{every_bit}
+use Rattle.smb_mux.specs.Sending.{room_of}
 use Rattle.fs_client.proofs.Lists.{none_some, some_is}
 use Rattle.fs_core.specs.declared.flight.Flight.{Flight}
 use Rattle.fs_core.specs.declared.phase.Phase.{Phase}
@@ -16,8 +13,8 @@ use Rattle.fs_core.specs.declared.slot.Slot.{Slot}
 use Rattle.fs_core.specs.declared.stat.Outcome.{Outcome}
 use Rattle.fs_core.specs.declared.stat.Progress.{Progress}
 use Rattle.fs_core.specs.declared.stat.Progress.TheVariants as progress
-use Rattle.fs_core.specs.Asks.{only, open_wish, chain_of, leave_asks, progress_with, asking_with, asking_by, said_by, said_if, first_said}
-use Rattle.fs_core.specs.Going.{IsWaiting, AreFew, Looks, LooksAt, IsNoAsker, Sends, SendsAside, with_kept, greeting_of}
+use Rattle.fs_core.specs.Asks.{leave_asks, progress_with, asking_with, asking_by, said_by, said_if, first_said}
+use Rattle.fs_core.specs.Going.{IsWaiting, LooksAt, IsNoAsker, Sends, with_kept, greeting_of}
 use Rattle.fs_core.specs.Kept.{Kept, CoreValue}
 use Rattle.fs_core.specs.Parts.{slot_with, slots_but, is_idle, has_flight}
 use Rattle.smb_mux.specs.InFlight.{start}
@@ -25,7 +22,6 @@ use Rattle.fs_core.specs.declared.input.Input.TheVariants as input
 use Rattle.fs_core.specs.Event.{Comes, is_apart}
 use Rattle.fs_core.proofs.MarkingGoing.{no_call_left}
 use Rattle.fs_core.proofs.MarkingJoined.{comes_joined}
-use Rattle.fs_core.proofs.MarkingStarved.{wish_cost}
 use Rattle.fs_core.proofs.SendingAsides.{disconnect_room, logoff_room}
 
 -- a fault that has one cause has another that follows from it
@@ -37,12 +33,6 @@ if_err (Err e) weaker holds = weaker e holds
 pub flies_behind : (fs : List Flight) (g : Flight) (gs : List Flight) → has_flight (fs ++ g ∷ gs) ≡ true
 flies_behind [] g gs = refl
 flies_behind (f ∷ fs) g gs = refl
-
-pub none_flies : {A : Type 0} (fs : List Flight) → has_flight fs ≡ true → fs ≡ [] → A
-none_flies fs flies is = absurd (cc (ap has_flight is))
-
-pub aside_flies : (old new : CoreValue) (r : Request) → SendsAside r old new → has_flight new.kept.flights ≡ true
-aside_flies old new r so = ap (λ (k : Kept). has_flight k.flights) so.kept ∙ flies_behind old.kept.flights _ _
 
 -- what leaves the share is short
 pub leave_room : (ended : Bool) (p : Phase) (r : Request) → leave_asks ended p ≡ Some r → room_of (r ∷ []) ≤ MAX_FRAME
@@ -111,52 +101,6 @@ asking_waits number k first asks =
         → asking_by (option_map (λ (s : Slot). s.stat.progress) o) ≡ Some first → IsWaiting number k
     by None found idle is = absurd (none_some first is)
     by (Some s) found idle is = record { slot = s; found = found; idle = idle; asks = unsaid s.stat.progress first is }
-
-opens_by : (o : Option Progress) → asking_by o ≡ Some true → o ≡ Some progress.Opening
-opens_by None asks = absurd (none_some true asks)
-opens_by (Some progress.Opening) asks = refl
-opens_by (Some (progress.Querying fid)) asks = absurd (cc (some_is false true asks))
-opens_by (Some (progress.Closing fid o)) asks = absurd (cc (some_is false true asks))
-opens_by (Some (progress.Said o)) asks = absurd (none_some true asks)
-
-pub asking_opens : (number : ℕ) (k : Kept) → asking_with number k.flights k.slots ≡ Some true → progress_with number k.slots ≡ Some progress.Opening
-asking_opens number k asks =
-    opens_by (progress_with number k.slots) (asked_if (is_idle number k.flights) (progress_with number k.slots) true asks).1
-
-pub asking_few : (number : ℕ) (k : Kept) → asking_with number k.flights k.slots ≡ Some false → AreFew number k
-asking_few number k asks = λ opening.
-    let is : asking_by (Some progress.Opening) ≡ Some false =
-    subst (λ (o : Option Progress). asking_by o ≡ Some false) opening
-    (asked_if (is_idle number k.flights) (progress_with number k.slots) false asks).1 in
-    absurd (cc (some_is true false is))
-
-says_by : (p : Progress) → asking_by (Some p) ≡ None → said_by p ≡ None → ⊥
-says_by progress.Opening asks unsaid = none_some true (sym asks)
-says_by (progress.Querying fid) asks unsaid = none_some false (sym asks)
-says_by (progress.Closing fid o) asks unsaid = none_some false (sym asks)
-says_by (progress.Said o) asks unsaid = none_some o (sym unsaid)
-
-pub asks_nothing : (number : ℕ) (v : CoreValue) → asking_with number v.kept.flights v.kept.slots ≡ None → Looks number v v
-asks_nothing number v none = λ empty. (
-  refl,
-  λ slot found unsaid.
-      let asks : asking_by (progress_with number v.kept.slots) ≡ None = subst (λ (fs : List Flight). asking_with number fs v.kept.slots ≡ None) empty none in
-      says_by slot.stat.progress (subst (λ (o : Option Slot). asking_by (option_map (λ (s : Slot). s.stat.progress) o) ≡ None) found asks) unsaid,
-)
-
-pub flies_looks : (number : ℕ) (old new : CoreValue) → has_flight new.kept.flights ≡ true → Looks number old new
-flies_looks number old new flies = λ empty. none_flies new.kept.flights flies empty
-
--- too few ids for all three requests of a stat
-pub chain_few : (facts : Facts) (path : List ℕ) (free : ℕ) → free < costs (chain_of facts path) → free < 3
-chain_few facts path free less =
-    omega (
-      arith,
-      less,
-      wish_cost facts (only every_bit) (false, open_wish path),
-      wish_cost facts (only every_bit) (true, Query (Own 0)),
-      wish_cost facts (only every_bit) (true, Close (Own 0)),
-    )
 
 -- once the first call was looked at, what was looked at and sent nothing did nothing
 abbrev pub IsUntouched : ℕ → CoreValue → CoreValue → Type 0

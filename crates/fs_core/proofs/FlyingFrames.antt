@@ -11,7 +11,7 @@ use Rattle.smb_chain.specs.Chain.{linked, parts_for, chain}
 use Rattle.smb_credit.specs.Window.{Ids, no_request, cost, after_use}
 use Rattle.smb_mux.specs.Sending.{costs, head_for, placed, room_of, flights_of}
 use Rattle.share_spec.specs.declared.connection.Sent.{Sent}
-use Rattle.fs_plain.specs.Differences.{mids_among, mids_in}
+use Rattle.fs_plain.specs.Owners.{mids_among, mids_in}
 use Rattle.fs_plain.specs.World.{waiting, requests_among, requests_in}
 use Rattle.fs_client.specs.View.{Client}
 use Rattle.fs_client.specs.After.{parts_sent, frame_of, cost_of, costs_among}

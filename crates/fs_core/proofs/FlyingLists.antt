@@ -12,7 +12,7 @@ use Rattle.share_spec.specs.declared.connection.Sent.{Sent}
 use Rattle.share_spec.specs.declared.request.Rep.{Rep}
 use Rattle.share_spec.specs.Sent.{sent_with}
 use Rattle.smb_link.specs.Program.{Known}
-use Rattle.fs_plain.specs.Replay.{Owner, owner_of}
+use Rattle.fs_plain.specs.Owners.{Owner, owner_of}
 use Rattle.fs_plain.specs.Requests.{WireRequest, wire_request}
 use Rattle.fs_plain.specs.World.{waiting, is_creating, refusal_before}
 use Rattle.fs_client.specs.Item.{Item, on_item, spoken_for, flown}

@@ -24,7 +24,7 @@ use Rattle.fs_client.specs.After.{made_whole, granted_among, after}
 use Rattle.fs_client.specs.Asked.{fits}
 use Rattle.fs_client.specs.Looks as looks
 use Rattle.fs_client.specs.Looks.{awaited_with, answers_aside, landed_by, looked_reply, looked_as, looked_for, looked, all_looked}
-use Rattle.fs_client.specs.Ready.{awaited, IsReady}
+use Rattle.fs_client.specs.Ready.{awaited}
 use Rattle.fs_client.specs.Sane.{Sane}
 use Rattle.fs_client.specs.Spelled.{ids_of}
 use Rattle.fs_client.proofs.Ids.{ids_granted}
@@ -39,7 +39,7 @@ use Rattle.fs_core.specs.Event.{Comes}
 use Rattle.fs_core.specs.Fits.{IsAt, AreUpTo, Fits}
 use Rattle.fs_core.specs.Parts.{is_first}
 use Rattle.fs_core.specs.Steps.{gone, next_turn, turned_with, turned, landed, aside_gone, with_frame, LandsAs, LandsFor, waiting_with, Lands, LandAll}
-use Rattle.fs_core.proofs.LandingHeard.{all_heard, at_bytes, got_heard, frame_heard, judged_heard}
+use Rattle.fs_core.proofs.LandingHeard.{all_heard, at_bytes, frame_heard, judged_heard}
 use Rattle.fs_core.proofs.LandingPhases.{landed_leaves}
 use Rattle.fs_core.proofs.LandingSteps.{Follows, walk_all}
 use Rattle.fs_core.proofs.Marking.{at_stays}
@@ -239,42 +239,3 @@ pub frame_comes : (frame : List ℕ) (taken : Taken) (old new : CoreValue) → j
 frame_comes frame taken old new sound land setting outs = comes_landed frame taken old new setting outs land
     (λ c c' sane fit brought. subst (Fits old.setting new.kept) (sym brought.3)
     (frame_fits old.setting brought.0 frame taken old.kept new.kept c sound land sane fit brought.1 brought.2))
-
--- bytes that make no frame whole leave the core with what the client has
-pub partial_fits : (st : Setting) (bytes : List ℕ) (k : Kept) (c : Client) → Fits st k c → frames_in (c.view.held ++ bytes) ≡ []
-    → Fits st k (after st c (event.Got bytes))
-partial_fits st bytes k c fit whole =
-    let none : made_whole bytes c.view ≡ [] = ap messages_in whole in
-    let is : after st c (event.Got bytes) ≡ at_bytes st bytes c =
-    got_heard st bytes c ∙ ap (λ (parts : List (Result (List ℕ) BadNext)). all_heard parts (at_bytes st bytes c)) none in
-    subst (Fits st k) (sym is) (record {
-      slots = fit.slots;
-      flights = fit.flights;
-      early = fit.early;
-      ids = λ stands. fit.ids stands ∙ ap (λ (parts : List (Result (List ℕ) BadNext)). up_to c.view.next (granted_among parts c.tally.granted)) (sym none);
-      awaited = fit.awaited;
-      phase = bytes_at st bytes k c fit.phase;
-      last = fit.last;
-      now = fit.now;
-      ended = fit.ended;
-      idle = fit.idle;
-      ready = subst IsReady is (got_ready st c bytes fit.ready);
-    })
-
--- and so does a silence
-pub quiet_fits : (st : Setting) (k : Kept) (c : Client) → Fits st k c → Fits st k (after st c event.Quiet)
-quiet_fits st k c fit = record {
-  slots = fit.slots;
-  flights = fit.flights;
-  early = fit.early;
-  ids = fit.ids;
-  awaited = fit.awaited;
-  phase =
-      at_stays st k.phase c (after st c event.Quiet)
-      (record { connected = refl; exchanges = refl; flights = refl; items = λ none. none; ended = λ over. over }) fit.phase;
-  last = fit.last;
-  now = fit.now;
-  ended = fit.ended;
-  idle = fit.idle;
-  ready = record { used = fit.ready.used; granted = fit.ready.granted; whole = fit.ready.whole };
-}

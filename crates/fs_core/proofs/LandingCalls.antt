@@ -21,7 +21,7 @@ use Rattle.smb_link.specs.Program.{File, Own, Program, Known, Ask, Say, Query, C
 use Rattle.smb_link.specs.Stat.{stat_of, stat_answer}
 use Rattle.fs_plain.specs.Paired.{open_given}
 use Rattle.fs_plain.specs.Requests.{WireRequest, wire_request}
-use Rattle.fs_plain.specs.Replay.{Owner, owner_of}
+use Rattle.fs_plain.specs.Owners.{Owner, owner_of}
 use Rattle.fs_plain.specs.World.{is_creating, resolved}
 use Rattle.fs_client.specs.Item.{Item, item_with, on_item, fids_with, fids_after, gone_on}
 use Rattle.fs_client.specs.View.{View}

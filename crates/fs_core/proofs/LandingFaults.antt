@@ -12,14 +12,11 @@ use Rattle.smb_field.specs.Faults.{error_fault}
 use Rattle.smb_body_c.specs.Directory.{buffer_reply_of}
 use Rattle.smb_mount.specs.declared.fault.MountFault.{MountFault}
 use Rattle.smb_mount.specs.declared.fault.MountFault.TheVariants as mount_fault
-use Rattle.smb_mux.specs.declared.fault.Malformed.TheVariants as malformed
-use Rattle.smb_mux.specs.declared.fault.TakeFault.{TakeFault}
-use Rattle.smb_mux.specs.declared.fault.TakeFault.TheVariants as take_fault
 use Rattle.smb_mux.specs.declared.taken.Reply.{Reply}
 use Rattle.smb_mux.specs.declared.taken.Taken.{Taken}
 use Rattle.smb_mux.specs.Answers.{IsAnswerTo, AreAnswers}
 use Rattle.smb_mux.specs.Bodies as mux
-use Rattle.smb_mux.specs.Judged.{judged, IsAnswer}
+use Rattle.smb_mux.specs.Judged.{judged}
 use Rattle.share_spec.specs.declared.connection.Sent.{Sent}
 use Rattle.share_spec.specs.declared.request.RepBody.TheVariants as body
 use Rattle.share_spec.specs.Sent.{sent_with}
@@ -48,7 +45,7 @@ use Rattle.fs_core.specs.Event.{FailsAt, IsRefused, IsUnreadable, CausedBy, IsFa
 use Rattle.fs_core.specs.Fits.{IsOfKind, IsAt, Fits}
 use Rattle.fs_core.specs.Going.{mount_fault_for, HasNoBody, StopsSaid, StopsAs, StopsWith, StopsAmong}
 use Rattle.fs_core.specs.Seen.{is_done}
-use Rattle.fs_core.specs.Steps.{with_frame, FailsIn, said_by, said_in, LandAll, fault_for}
+use Rattle.fs_core.specs.Steps.{with_frame, FailsIn, said_by, said_in, LandAll}
 use Rattle.fs_core.proofs.Landing.{bytes_follow, bytes_answer, bytes_heard}
 use Rattle.fs_core.proofs.LandingAwaited.{awaited_found, answers_left}
 use Rattle.fs_core.proofs.LandingHeard.{heard, all_heard, all_heard_is, at_bytes, replies_append}
@@ -56,15 +53,6 @@ use Rattle.fs_core.proofs.LandingMounts.{HasBodyWith, HasBody, negotiate_sound, 
 use Rattle.fs_core.proofs.LandingPhases.{at_most_gone}
 use Rattle.fs_core.proofs.LandingSaid.{IsFinal, said_is, aside_body, create_speaks, close_speaks}
 use Rattle.fs_core.proofs.LandingSteps.{Follows, Meets, meets, heard_aside, steps}
-
--- a frame that smb_mux refuses
-pub taken_fault : (frame : List ℕ) (old : CoreValue) (e : TakeFault) → IsAnswer (judged old.kept.mux.awaited frame) (Err e)
-    → IsFaultOf (input.Frame frame) old (fault_for e)
-taken_fault frame old take_fault.NoMemory is = λ c c' sane fit brought. record {}
-taken_fault frame old (take_fault.Malformed (malformed.Head f)) is = λ c c' sane fit brought. ap (λ (l : List (ℕ × ℕ)). judged l frame) (sym fit.awaited) ∙ is
-taken_fault frame old (take_fault.Malformed (malformed.Body f)) is = λ c c' sane fit brought. ap (λ (l : List (ℕ × ℕ)). judged l frame) (sym fit.awaited) ∙ is
-taken_fault frame old (take_fault.Malformed malformed.Chain) is = λ c c' sane fit brought. ap (λ (l : List (ℕ × ℕ)). judged l frame) (sym fit.awaited) ∙ is
-taken_fault frame old (take_fault.Stranger mid) is = λ c c' sane fit brought. ap (λ (l : List (ℕ × ℕ)). judged l frame) (sym fit.awaited) ∙ is
 
 -- the replies before one have landed
 record Reached (st : Setting) (k : Kept) (r : Reply) (c : Client) : Type 0 where

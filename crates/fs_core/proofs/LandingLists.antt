@@ -10,7 +10,7 @@ use Rattle.share_spec.specs.declared.request.Rep.{Rep}
 use Rattle.share_spec.specs.declared.request.RepBody.{RepBody}
 use Rattle.share_spec.specs.Sent.{behind_create, sent_but, sent_with}
 use Rattle.fs_plain.specs.Requests.{WireRequest, wire_request}
-use Rattle.fs_plain.specs.Replay.{Owner}
+use Rattle.fs_plain.specs.Owners.{Owner}
 use Rattle.fs_plain.specs.World.{is_creating, refusal_before, came_to, is_first_of_frame}
 use Rattle.fs_client.specs.Item.{Item, item_with, on_item}
 use Rattle.fs_client.specs.Asked.{creates, creates_as, refused_as, left_by}

@@ -1,9 +1,8 @@
 -- Replies that land, one more at a time.
-use Rattle.std.proofs.Common.{add-one, arith, ◌≡◌, ◌∙◌, refl, sym, ap, subst, ℕ, zero, suc, ◌+◌, ◌-◌, ◌<◌, true, false, List, [], ◌∷◌, ◌++◌, length, take, drop, get_or, Option, Some, None}
-use Rattle.std.specs.Prelude.{IsOk, is_some}
+use Rattle.std.proofs.Common.{add-one, arith, ◌≡◌, ◌∙◌, refl, sym, ap, subst, ℕ, suc, ◌+◌, ◌-◌, ◌<◌, true, List, [], ◌∷◌, ◌++◌, length, take, drop, get_or, Option, Some, None}
+use Rattle.std.specs.Prelude.{is_some}
 use Rattle.std.proofs.Math.Seq.{take-suc, drop-cons}
 use Rattle.std.proofs.lemmas.List.{take-append-drop}
-use Rattle.smb_head.specs.Header.{head_of}
 use Rattle.smb_mux.specs.Answers.{AreAnswers}
 use Rattle.share_spec.specs.declared.request.Rep.{Rep}
 use Rattle.fs_core.specs.declared.flight.Flight.{Flight}
@@ -18,15 +17,10 @@ pub land_more : (options : Options) (replies : List Reply) (r : Reply) (k k' k''
 land_more options [] r k k' k'' is lands = (k'', subst (λ (x : Kept). Lands options r x k'') is lands, refl)
 land_more options (q ∷ replies) r k k' k'' all lands = (all.0, all.1, land_more options replies r all.0 k' k'' all.2 lands)
 
--- the header of each reply that is an answer reads; and so that of the one at a place
+-- the header of each reply that is an answer reads
 pub answers_read : (waiting : List (ℕ × ℕ)) (replies : List Reply) → AreAnswers waiting replies → AreRead replies
 answers_read waiting [] answers = record {}
 answers_read waiting (r ∷ replies) answers = (rw answers.0.headed refl, answers_read waiting replies answers.2)
-
-pub read_at : (replies : List Reply) (i : ℕ) (d : Reply) → i < length replies → AreRead replies → IsOk (head_of (get_or replies i d).part)
-read_at [] i d within read = absurd (omega (arith, within))
-read_at (r ∷ replies) zero d within read = read.0
-read_at (r ∷ replies) (suc i) d within read = read_at replies i d (omega (arith, within)) read.1
 
 -- early replies come to their turn, one more at a time
 pub turned_on : (options : Options) (n : ℕ) (k k' : Kept) → is_some (next_turn k.flights k.early) ≡ true
@@ -36,21 +30,6 @@ turned_on options n k k' some is = by (next_turn k.flights k.early) some is
     by : (o : Option (Flight × Rep)) → is_some o ≡ true → k' ≡ turned_with options o (λ x. x) k → turned_with options o (turned options n) k ≡ turned options n k'
     by None some is = absurd (cc some)
     by (Some x) some is = ap (turned options n) (sym is)
-
-pub turned_none : (options : Options) (n : ℕ) (k : Kept) → is_some (next_turn k.flights k.early) ≡ false → turned options n k ≡ k
-turned_none options zero k none = refl
-turned_none options (suc n) k none = by (next_turn k.flights k.early) none
-  where
-    by : (o : Option (Flight × Rep)) → is_some o ≡ false → turned_with options o (turned options n) k ≡ k
-    by None none = refl
-    by (Some x) none = absurd (cc none)
-
-pub turned_same : (options : Options) (k : Kept) → is_some (next_turn k.flights k.early) ≡ false → turned_with options (next_turn k.flights k.early) (λ x. x) k ≡ k
-turned_same options k none = by (next_turn k.flights k.early) none
-  where
-    by : (o : Option (Flight × Rep)) → is_some o ≡ false → turned_with options o (λ x. x) k ≡ k
-    by None none = refl
-    by (Some x) none = absurd (cc none)
 
 -- so many are left at most
 pub turned_left : (options : Options) (most i : ℕ) (k k' : Kept) → i < most → is_some (next_turn k.flights k.early) ≡ true

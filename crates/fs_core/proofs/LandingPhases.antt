@@ -15,9 +15,9 @@ use Rattle.share_spec.specs.PlainShare.{shown}
 use Rattle.share_spec.specs.Sent.{sent_but, sent_with}
 use Rattle.smb_link.specs.Program.{File, Program, Known, Ask, Look, Say, settled}
 use Rattle.fs_plain.specs.Requests.{WireRequest, wire_request}
-use Rattle.fs_plain.specs.Replay.{Owner, owner_of}
+use Rattle.fs_plain.specs.Owners.{Owner, owner_of}
 use Rattle.fs_plain.specs.Replies.{command_of}
-use Rattle.fs_plain.specs.Taken.{wish_of}
+use Rattle.fs_plain.specs.Wishes.{wish_of}
 use Rattle.fs_plain.specs.World.{is_first_of_frame}
 use Rattle.fs_client.specs.Item.{Item, item_with, fids_after}
 use Rattle.fs_client.specs.View.{Setting, Exchange, View, Client}

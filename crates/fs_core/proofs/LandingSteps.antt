@@ -12,7 +12,7 @@ use Rattle.share_spec.specs.Sent.{sent_but, sent_with}
 use Rattle.fs_types.specs.declared.options.Options.{Options}
 use Rattle.fs_plain.specs.Masked.{Untold, untold}
 use Rattle.fs_plain.specs.Requests.{WireRequest, wire_request}
-use Rattle.fs_plain.specs.Replay.{Owner}
+use Rattle.fs_plain.specs.Owners.{Owner}
 use Rattle.fs_plain.specs.Replies.{command_of, reply_in, is_aside_reply}
 use Rattle.fs_plain.specs.World.{mid_of}
 use Rattle.fs_client.specs.View.{Setting, Exchange, View, Client}

@@ -7,7 +7,7 @@ use Rattle.fs_types.specs.declared.options.Options.{Options}
 use Rattle.share_spec.specs.declared.connection.Sent.{Sent}
 use Rattle.share_spec.specs.declared.request.Rep.{Rep}
 use Rattle.share_spec.specs.Sent.{sent_with}
-use Rattle.fs_plain.specs.Replay.{Owner}
+use Rattle.fs_plain.specs.Owners.{Owner}
 use Rattle.fs_plain.specs.World.{is_first_of_frame}
 use Rattle.fs_client.specs.View.{View}
 use Rattle.fs_client.specs.Asked.{fits}

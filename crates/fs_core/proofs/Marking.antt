@@ -34,7 +34,7 @@ use Rattle.fs_core.specs.Parts.{slot_with, is_idle}
 use Rattle.fs_core.specs.Fits.{IsNoLeave, answer_of, rest_by, rest_of, HasOpened, IsFirst, IsAlone, IsAtMost, IsStaying, Mounts, IsMounted, IsOver, IsAsked, IsAt, AreUpTo}
 use Rattle.fs_core.specs.Event.{is_mounted, Does, IsAfter, MayTake}
 use Rattle.fs_core.specs.Steps.{begun, answered, timed, over}
-use Rattle.fs_core.proofs.MarkingLists.{shown_append, shown_but, lane_shown, no_sent, idle_is}
+use Rattle.fs_core.proofs.MarkingLists.{shown_append, shown_but, lane_shown, idle_is}
 
 -- what a client may do, and what it does not change of how far the connection has come
 pub record StaysAt (c c' : Client) : Type 0 where
@@ -284,29 +284,3 @@ begin_does st k number lane call stat take rest first = λ c sane fits.
   where
     there : (call : Call) → is_stat call ≡ true → is_there call ≡ true
     there call is = is
-
--- the share is left, once the last request that leaves it was answered
-pub left_does : (st : Setting) (k : Kept) (facts : Facts) → k.phase ≡ phase.LeavingSession facts → k.flights ≡ []
-    → Does st k (output.Left ∷ []) (record k { phase = phase.Left })
-left_does st k facts is none = λ c sane fits.
-    let quiet : c.view.flights ≡ [] = no_sent c.view.told.owners k.flights c.view.flights fits.flights none in
-    let at : IsAt st (phase.LeavingSession facts) c = subst (λ (p : Phase). IsAt st p c) is fits.phase in (
-      record {},
-      record {
-        slots = fits.slots;
-        flights = fits.flights;
-        early = fits.early;
-        ids = fits.ids;
-        awaited = fits.awaited;
-        phase = (at.0.no_call, at.0.ended, quiet, at.1, was_left c quiet at.2);
-        last = fits.last;
-        now = fits.now;
-        ended = fits.ended;
-        idle = fits.idle;
-        ready = fits.ready;
-      },
-    )
-  where
-    was_left : (c : Client) → c.view.flights ≡ [] → IsAsked LOGOFF c → was_answered LOGOFF c.tally.exchanges ≡ true
-    was_left c quiet (inl asked) = absurd (subst (IsAlone LOGOFF) quiet asked.1)
-    was_left c quiet (inr asked) = asked.0

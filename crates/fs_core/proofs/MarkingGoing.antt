@@ -1,8 +1,7 @@
--- What follows an input, part by part, and a whole event: calls are answered, what waits is sent or stops for want of ids, and in the end
--- nobody waits for nothing.
+-- What an input has the core tell, and what follows it, part by part: calls are answered, what waits is sent or stops for want of ids, and
+-- in the end nobody waits for nothing.
 use Rattle.std.proofs.Common.{arith, ◌≡◌, ◌∙◌, refl, sym, ap, subst, ℕ, ◌==◌, ◌<◌, ◌≤◌, max, Bool, true, false, if◌then◌else◌, List, [], ◌∷◌, ◌++◌, length, Option, Some, None}
 use Rattle.std.specs.Prelude.{slice_get, ◌||◌}
-use Rattle.std.proofs.lemmas.Bool.{false≢true}
 use Rattle.smb_credit.specs.Window.{usable}
 use Rattle.smb_head.specs.declared.request.Request.{Request}
 use Rattle.smb_mount.specs.declared.facts.Facts.{Facts}
@@ -34,14 +33,14 @@ use Rattle.fs_core.specs.declared.stat.Progress.TheVariants as progress
 use Rattle.fs_core.specs.declared.phase.Phase.{Phase}
 use Rattle.fs_core.specs.declared.phase.Phase.TheVariants as phase
 use Rattle.fs_core.specs.Kept.{Kept, CoreValue}
-use Rattle.fs_core.specs.Parts.{slot_with, is_idle, has_flight}
+use Rattle.fs_core.specs.Parts.{slot_with, is_idle}
 use Rattle.fs_core.specs.Fits.{answer_of, rest_of, IsFirst, AllShow}
 use Rattle.fs_core.specs.Asks.{said_by, said_if, first_said, facts_of, mount_asks, leave_asks}
-use Rattle.fs_core.specs.Event.{rank_of, rank, has_left, is_left, is_connected, Stays, Holds, Does, Puts, Tells, IsAtPeace, Lives, MayTake, IsFaultOf, Stops}
-use Rattle.fs_core.specs.Going.{IsWaiting, FailsToSend, IsStill, cut_off}
+use Rattle.fs_core.specs.Event.{rank_of, rank, tellings, told_by, has_left, is_left, Stays, Holds, Does, Puts, Tells, IsAtPeace, Lives, MayTake, IsFaultOf, Stops}
+use Rattle.fs_core.specs.Going.{IsWaiting, FailsToSend, IsStill}
 use Rattle.fs_core.specs.Steps.{begun, answered, timed, over}
-use Rattle.fs_core.proofs.Putting.{not_left, puts_wider, puts_then, puts_one}
-use Rattle.fs_core.proofs.Marking.{begin_does, end_does, now_does, answer_does, left_does}
+use Rattle.fs_core.proofs.Putting.{not_left, puts_one}
+use Rattle.fs_core.proofs.Marking.{begin_does, end_does, now_does, answer_does}
 use Rattle.fs_core.proofs.MarkingLists.{slot_shown}
 use Rattle.fs_core.proofs.MarkingStarved.{call_starved, call_has_facts, mount_starved, tree_starved, session_starved}
 
@@ -121,15 +120,17 @@ puts_added old new o k is left holds does =
     puts_one old new o k (ap (λ (v : CoreValue). v.setting) is) (ap (λ (v : CoreValue). v.outs) is) (ap (λ (v : CoreValue). v.kept) is) left holds does
 
 -- an input has the core tell one thing of itself
-told_added : (e : Input) (old new : CoreValue) (m : Mark) (k : Kept) → new ≡ added (output.Marked m) k old → rank_of m ≡ 1 → k.phase ≡ old.kept.phase → Stays e old.kept k
+told_added : (e : Input) (old new : CoreValue) (m : Mark) (k : Kept) → new ≡ added (output.Marked m) k old → rank_of m ≡ 1
+    → tellings (output.Marked m ∷ []) ≡ told_by e old.kept → k.phase ≡ old.kept.phase → Stays e old.kept k
     → Does old.setting old.kept (output.Marked m ∷ []) k → Tells e old new
-told_added e old new m k is first same stays does =
+told_added e old new m k is first tells same stays does =
     let kept : new.kept ≡ k = ap (λ (v : CoreValue). v.kept) is in
     record {
       more = output.Marked m ∷ [];
       setting = ap (λ (v : CoreValue). v.setting) is;
       outs = ap (λ (v : CoreValue). v.outs) is;
       order = (one (rank_of m) first, no_more (rank_of m) first, record {});
+      tells = tells;
       left = ap (λ (j : Kept). is_left j.phase) kept ∙ ap is_left same ∙ not_left (is_left old.kept.phase);
       stays = subst (Stays e old.kept) (sym kept) stays;
       does = subst (Does old.setting old.kept (output.Marked m ∷ [])) (sym kept) does;
@@ -145,30 +146,24 @@ pub said_puts : (old new : CoreValue) (number : ℕ) (o : Outcome) → first_sai
     → new ≡ added (output.Answer number (answer_of o)) (answered number old.kept) old → Puts 2 2 old new
 said_puts old new number o said is =
     puts_added old new (output.Answer number (answer_of o)) (answered number old.kept) is (not_left (is_left old.kept.phase))
-    (record { last = refl; ended = refl; connected = refl })
+    (record { last = refl; now = refl; ended = refl; connected = refl })
     (said_does old.setting old.kept number o said)
 
 pub begin_tells : (old new : CoreValue) (number lane : ℕ) (call : Call) (stat : Stat) → MayTake (input.Begin number lane call) old.kept
     → rest_of old.setting.options stat ≡ program_of old.setting.options old.setting.seed call → IsFirst stat.progress
     → new ≡ added (output.Marked (mark.Begin number lane call)) (begun number lane stat old.kept) old → Tells (input.Begin number lane call) old new
 begin_tells old new number lane call stat may rest first is =
-    told_added (input.Begin number lane call) old new (mark.Begin number lane call) (begun number lane stat old.kept) is refl refl
-    (record { last = refl; ended = refl; connected = refl }) (begin_does old.setting old.kept number lane call stat may rest first)
+    told_added (input.Begin number lane call) old new (mark.Begin number lane call) (begun number lane stat old.kept) is refl refl refl
+    (record { last = refl; now = refl; ended = refl; connected = refl }) (begin_does old.setting old.kept number lane call stat may rest first)
 
 pub now_tells : (old new : CoreValue) (time : ℕ) → new ≡ added (output.Marked (mark.Now (max old.kept.now time))) (timed time old.kept) old → Tells (input.Now time) old new
 now_tells old new time is =
-    told_added (input.Now time) old new (mark.Now (max old.kept.now time)) (timed time old.kept) is refl refl
-    (record { last = refl; ended = refl; connected = refl }) (now_does old.setting old.kept time)
+    told_added (input.Now time) old new (mark.Now (max old.kept.now time)) (timed time old.kept) is refl refl refl
+    (record { last = refl; now = refl; ended = refl; connected = refl }) (now_does old.setting old.kept time)
 
 pub end_tells : (old new : CoreValue) → old.kept.ended ≡ false → new ≡ added (output.Marked mark.End) (over old.kept) old → Tells input.End old new
 end_tells old new going is =
-    told_added input.End old new mark.End (over old.kept) is refl refl (record { last = refl; ended = refl; connected = refl }) (end_does old.setting old.kept going)
-
-pub left_puts : (old new : CoreValue) (facts : Facts) → old.kept.phase ≡ phase.LeavingSession facts → old.kept.flights ≡ []
-    → new ≡ added output.Left (record old.kept { phase = phase.Left }) old → Puts 4 4 old new
-left_puts old new facts at quiet is =
-    puts_added old new output.Left (record old.kept { phase = phase.Left }) is (ap (λ (p : Phase). is_left p || true) (sym at))
-    (record { last = refl; ended = refl; connected = sym (ap is_connected at) }) (left_does old.setting old.kept facts at quiet)
+    told_added input.End old new mark.End (over old.kept) is refl refl refl (record { last = refl; now = refl; ended = refl; connected = refl }) (end_does old.setting old.kept going)
 
 -- where nothing is in flight and no call asks, none that has its answer is left either
 pub no_call_left : (flights : List Flight) (slots : List Slot) → flights ≡ [] → first_said flights slots ≡ None
@@ -239,22 +234,10 @@ leave_fails old request (fault.Protocol (protocol.Stranger m)) quiet none asks f
 leave_fails old request (fault.Refused f) quiet none asks fails = absurd fails
 
 -- want of memory needs no cause
-pub memory_stops : (old : CoreValue) (f : CoreFault) → f ≡ fault.NoMemory → Stops old f
-memory_stops old f is = subst (Stops old) (sym is) (record {})
-
 pub memory_fault : (e : Input) (old : CoreValue) (f : CoreFault) → f ≡ fault.NoMemory → IsFaultOf e old f
 memory_fault e old f is = subst (IsFaultOf e old) (sym is) (λ c c' sane fits brought. record {})
 
--- nobody waits for nothing: something is in flight; or neither the mount nor what leaves the share asks for anything; or all is over
-pub flying_lives : (k : Kept) → has_flight k.flights ≡ true → Lives k
-flying_lives k flies = λ none. absurd (false≢true (sym (ap has_flight none) ∙ flies))
-
-pub left_lives : (k : Kept) → k.slots ≡ [] → Lives (record k { phase = phase.Left })
-left_lives k none = λ quiet. (record {}, λ stands. none)
-
-pub cut_lives : (k : Kept) → Lives (cut_off k)
-cut_lives k = λ quiet. (record {}, λ stands. refl)
-
+-- nobody waits for nothing, where neither the mount nor what leaves the share asks for anything
 pub last_lives : (k : Kept) → IsStill k → k.flights ≡ [] → leave_asks k.ended k.phase ≡ None → ((facts : Facts) → k.phase ≡ phase.LeavingSession facts → ⊥)
     → Lives k
 last_lives k still quiet none over = λ q. (peace k.phase k.ended (still quiet).1 none over, λ stands. (still quiet).0)
@@ -274,14 +257,3 @@ last_lives k still quiet none over = λ q. (peace k.phase k.ended (still quiet).
     peace (phase.LeavingSession facts) e mounts leaves over = absurd (over facts refl)
     peace phase.Left e mounts leaves over = record {}
     peace phase.Lost e mounts leaves over = record {}
-
--- all that follows an input: answers, requests of calls, one of the mount, and one that leaves the share
-pub goes_on : (a b c d e : CoreValue) → Puts 2 2 a b → Puts 3 3 b c → Puts 3 3 c d → Puts 3 4 d e → Puts 2 4 a e
-goes_on a b c d e answers calls mount leave =
-    puts_then 2 3 4 a b e (omega arith) (omega arith) (puts_wider 2 2 2 3 a b (omega arith) (omega arith) answers)
-    (puts_then 3 3 4 b c e (omega arith) (omega arith) calls
-    (puts_then 3 3 4 c d e (omega arith) (omega arith) mount leave))
-
--- a connection that is lost
-pub cut_stays : (k : Kept) → Stays input.Cut k (cut_off k)
-cut_stays k = record { last = refl; ended = refl; connected = refl }

@@ -1,10 +1,9 @@
 -- The core before its first input fits a client before its first event, and a core that fits a client fits it once a connection is made.
-use Rattle.std.proofs.Common.{◌≡◌, ◌∙◌, refl, sym, ap, subst, ℕ, false, List, [], ◌∷◌, inr}
+use Rattle.std.proofs.Common.{◌≡◌, ◌∙◌, refl, sym, ap, subst, false, List, [], ◌∷◌, inr}
 use Rattle.std.specs.Prelude.{map}
 use Rattle.std.specs.List.{AllByRecursion}
 use Rattle.std.proofs.lemmas.Bool.{false≢true}
 use Rattle.smb_base.specs.declared.names.Mid.{Mid}
-use Rattle.fs_types.specs.declared.options.Options.{Options}
 use Rattle.smb_credit.specs.Window.{numbers, up_to}
 use Rattle.smb_mount.specs.Kept.{Start}
 use Rattle.smb_mux.specs.InFlight.{start}
@@ -23,8 +22,7 @@ use Rattle.fs_core.specs.declared.phase.Phase.{Phase}
 use Rattle.fs_core.specs.declared.phase.Phase.TheVariants as phase
 use Rattle.fs_core.specs.Kept.{Kept, CoreValue}
 use Rattle.fs_core.specs.Fits.{AllShow, AllFly, IsApart, IsAt, Fits}
-use Rattle.fs_core.specs.Path.{share_path}
-use Rattle.fs_core.specs.Start.{kept_at_start, at_start}
+use Rattle.fs_core.specs.Start.{kept_at_start}
 use Rattle.fs_core.specs.Event.{is_left, is_connected, Comes}
 use Rattle.fs_core.proofs.MarkingLists.{no_flight}
 
@@ -44,11 +42,6 @@ fits_first st mount is = record {
   idle = refl;
   ready = ready_first;
 }
-
-pub starts_fit : (options : Options) (guid seed host share : List ℕ)
-    → Fits (at_start options guid seed host share).setting (at_start options guid seed host share).kept no_client
-starts_fit options guid seed host share =
-    fits_first (at_start options guid seed host share).setting (record { guid = guid; path = share_path host share; previous = 0 }) refl
 
 -- an early reply is one to a request in flight
 none_early : (flights : List Sent) (early : List (Mid × Rep)) → flights ≡ [] → AllByRecursion (IsEarly flights) early → early ≡ []
@@ -89,6 +82,7 @@ comes_joined mount old new setting outs is kept = record {
   left = ap (λ (k : Kept). is_left k.phase) kept ∙ sym (ap is_left is);
   stays = record {
     last = ap (λ (k : Kept). k.last) kept;
+    now = ap (λ (k : Kept). k.now) kept;
     ended = ap (λ (k : Kept). k.ended) kept;
     connected = ap (λ (k : Kept). is_connected k.phase) kept;
   };

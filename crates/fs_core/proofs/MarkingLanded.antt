@@ -23,12 +23,13 @@ pub record Remains (k k' : Kept) : Type 0 where
   pub left : is_left k'.phase ≡ is_left k.phase
 
 remains_itself : (k : Kept) → Remains k k
-remains_itself k = record { holds = record { last = refl; ended = refl; connected = refl }; left = refl }
+remains_itself k = record { holds = record { last = refl; now = refl; ended = refl; connected = refl }; left = refl }
 
 remains_then : (k k' k'' : Kept) → Remains k k' → Remains k' k'' → Remains k k''
 remains_then k k' k'' one two = record {
   holds = record {
     last = two.holds.last ∙ one.holds.last;
+    now = two.holds.now ∙ one.holds.now;
     ended = two.holds.ended ∙ one.holds.ended;
     connected = two.holds.connected ∙ one.holds.connected;
   };
@@ -36,7 +37,7 @@ remains_then k k' k'' one two = record {
 }
 
 remains_gone : (options : Options) (f : Flight) (reply : Rep) (k : Kept) → Remains k (gone options f reply k)
-remains_gone options f reply k = record { holds = record { last = refl; ended = refl; connected = refl }; left = refl }
+remains_gone options f reply k = record { holds = record { last = refl; now = refl; ended = refl; connected = refl }; left = refl }
 
 remains_turned : (options : Options) (n : ℕ) (k : Kept) → Remains k (turned options n k)
 remains_turned options zero k = remains_itself k
@@ -55,7 +56,7 @@ remains_landed options f reply k = by (is_first k.flights f)
     by true =
         remains_then k (gone options f reply k) (turned options (length k.early) (gone options f reply k)) (remains_gone options f reply k)
         (remains_turned options (length k.early) (gone options f reply k))
-    by false = record { holds = record { last = refl; ended = refl; connected = refl }; left = refl }
+    by false = record { holds = record { last = refl; now = refl; ended = refl; connected = refl }; left = refl }
 
 -- a mount goes on, on its connection
 record IsBeside (p q : Phase) : Type 0 where
@@ -78,7 +79,7 @@ leads_beside (phase.Joining k) other part leads = absurd leads
 leads_beside other q part leads = beside_same other q leads
 
 remains_led : (f : Flight) (p : Phase) (k : Kept) → IsBeside k.phase p → Remains k (aside_gone f p k)
-remains_led f p k beside = record { holds = record { last = refl; ended = refl; connected = beside.connected }; left = beside.left }
+remains_led f p k beside = record { holds = record { last = refl; now = refl; ended = refl; connected = beside.connected }; left = beside.left }
 
 remains_said : (options : Options) (command : ℕ) (f : Flight) (part : List ℕ) (k k' : Kept) → LandsSaid options command f part k k' → Remains k k'
 remains_said options command f part k k' lands = subst (Remains k) (sym lands.2) (remains_landed options f lands.0 k)
@@ -110,6 +111,6 @@ comes_landed frame taken old new setting outs lands fits =
       setting = setting;
       outs = outs;
       left = r.left;
-      stays = record { last = r.holds.last; ended = r.holds.ended; connected = r.holds.connected };
+      stays = record { last = r.holds.last; now = r.holds.now; ended = r.holds.ended; connected = r.holds.connected };
       fits = fits;
     }

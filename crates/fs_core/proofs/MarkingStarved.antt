@@ -1,7 +1,6 @@
 -- A request waits, nothing is in flight, and the ids do not suffice: then none is free, and each client that the core fits is starved.
 use Rattle.std.proofs.Common.{arith, ◌≡◌, ◌∙◌, refl, sym, ap, subst, ℕ, ◌+◌, ◌==◌, ◌<◌, ◌≤◌, max, Bool, true, false, if◌then◌else◌, List, [], ◌∷◌, length, Some, None}
 use Rattle.std.specs.Prelude.{bit_and}
-use Rattle.smb_base.specs.declared.names.Fid.{Fid}
 use Rattle.smb_le.specs.declared.flags.ServerCaps.{ServerCaps}
 use Rattle.smb_credit.specs.Window.{Ids, usable}
 use Rattle.smb_credit.proofs.WindowLaws.{length-usable}
@@ -11,14 +10,14 @@ use Rattle.smb_mount.specs.declared.facts.Facts.{Facts}
 use Rattle.smb_mount.specs.Requests.{charge_of, negotiate, session_setup, tree_connect, tree_disconnect, logoff}
 use Rattle.smb_mount.specs.Tokens.{negotiate_token, authenticate_token}
 use Rattle.smb_mux.specs.Sending.{costs}
-use Rattle.smb_link.specs.Program.{Known, Program, File, Wish, settled}
+use Rattle.smb_link.specs.Program.{Known, Program, settled}
 use Rattle.fs_types.specs.declared.options.Options.{Options}
 use Rattle.fs_client.specs.Item.{Item, item_with}
 use Rattle.fs_client.specs.View.{Setting, Client}
 use Rattle.fs_client.specs.May.{IsAsking, was_answered}
 use Rattle.fs_client.specs.Mount.{Stage, Unmounted, Agreed, Challenging, InSession, Mounted, asked_at}
 use Rattle.fs_client.specs.Sane.{Sane}
-use Rattle.fs_client.specs.Spelled.{request_for, free_ids}
+use Rattle.fs_client.specs.Spelled.{free_ids}
 use Rattle.fs_client.proofs.Lists.{none_some, some_is, all_of, item_found}
 use Rattle.fs_core.specs.declared.fault.CoreFault.TheVariants as fault
 use Rattle.fs_core.specs.declared.fault.Protocol.TheVariants as protocol
@@ -45,9 +44,6 @@ charge_one caps = by (bit_and caps.0 4 == 4)
 
 cost_one : (charge : ℕ) → charge ≤ 1 → max 1 charge + 0 ≤ 1
 cost_one charge small = omega (arith, small)
-
-pub wish_cost : (facts : Facts) (fid : File → Fid) (wish : Bool × Wish) → costs (request_for facts fid wish ∷ []) ≤ 1
-wish_cost facts fid wish = cost_one (charge_of facts.caps) (charge_one facts.caps)
 
 pub alone_cost : (facts : Facts) (path : List ℕ) (p : Progress) → costs (alone_by facts path p) ≤ 1
 alone_cost facts path progress.Opening = cost_one (charge_of facts.caps) (charge_one facts.caps)

@@ -1,11 +1,13 @@
 -- The parts of an event, one after another: what each does of what the client may do, and the order of what they add.
-use Rattle.std.proofs.Common.{arith, ◌≡◌, ◌∙◌, refl, sym, ap, subst, ℕ, ◌≤◌, Bool, true, false, List, [], ◌∷◌, ◌++◌}
+use Rattle.std.proofs.Common.{arith, ◌≡◌, ◌∙◌, refl, sym, ap, subst, ℕ, ◌≤◌, Bool, true, false, List, [], ◌∷◌, ◌++◌, append-nil}
 use Rattle.std.specs.Prelude.{◌||◌}
 use Rattle.std.proofs.lemmas.Grind.{flat_map-append}
 use Rattle.std.proofs.lemmas.List.{append_assoc}
 use Rattle.std.proofs.lemmas.List.Folds.{list_any-append}
 use Rattle.smb_link.specs.declared.event.Event.{Event}
 use Rattle.smb_link.specs.declared.event.Event.TheVariants as event
+use Rattle.smb_link.specs.declared.mark.Mark.{Mark}
+use Rattle.smb_link.specs.declared.mark.Mark.TheVariants as mark
 use Rattle.fs_client.specs.View.{Setting, Client}
 use Rattle.fs_client.specs.After.{after, all_after}
 use Rattle.fs_client.specs.May.{Allowed}
@@ -17,9 +19,10 @@ use Rattle.fs_core.specs.declared.fault.Protocol.TheVariants as protocol
 use Rattle.fs_core.specs.declared.input.Input.{Input}
 use Rattle.fs_core.specs.declared.input.Input.TheVariants as input
 use Rattle.fs_core.specs.declared.output.Output.{Output}
+use Rattle.fs_core.specs.declared.output.Output.TheVariants as output
 use Rattle.fs_core.specs.Kept.{Kept, CoreValue}
 use Rattle.fs_core.specs.Fits.{Fits}
-use Rattle.fs_core.specs.Event.{events_by, events_of, rank, AreInOrder, Does, is_leave, has_left, is_left, Stays, Holds, Puts, Tells, Brought, Moves, Comes, IsStarved, IsFaultOf, Stops}
+use Rattle.fs_core.specs.Event.{events_by, events_of, rank, AreInOrder, telling_by, tellings, told_by, Does, is_leave, has_left, is_left, Stays, Holds, Puts, Tells, Brought, Moves, Comes, IsStarved, IsFaultOf, Stops}
 
 -- events and more events
 pub events_append : (more more' : List Output) → events_of (more ++ more') ≡ events_of more ++ events_of more'
@@ -87,6 +90,30 @@ order_then low mid high (o ∷ os) more under over order then = (
     at_most : (a b c : ℕ) → a ≤ b → b ≤ c → a ≤ c
     at_most a b c ab bc = omega (arith, ab, bc)
 
+-- what is told of the core itself: nothing behind its place in the order, and of two parts what both tell
+untold_by : (o : Output) → 2 ≤ rank o → telling_by o ≡ []
+untold_by output.Reconnect behind = refl
+untold_by (output.Marked (mark.For number first count)) behind = refl
+untold_by (output.Marked (mark.Answer number a)) behind = refl
+untold_by (output.Marked other) behind = absurd (omega (arith, behind))
+untold_by (output.Answer number a) behind = refl
+untold_by (output.Send frame) behind = refl
+untold_by output.Left behind = refl
+
+untold : (low high : ℕ) (os : List Output) → 2 ≤ low → AreInOrder low high os → tellings os ≡ []
+untold low high [] behind order = refl
+untold low high (o ∷ os) behind order =
+    let later : 2 ≤ rank o = at_most 2 low (rank o) behind order.0 in
+    ap (λ (l : List Mark). l ++ tellings os) (untold_by o later) ∙ untold (rank o) high os later order.2
+  where
+    at_most : (a b c : ℕ) → a ≤ b → b ≤ c → a ≤ c
+    at_most a b c ab bc = omega (arith, ab, bc)
+
+told_then : (e : Input) (k : Kept) (told more : List Output) → tellings told ≡ told_by e k → AreInOrder 2 4 more → tellings (told ++ more) ≡ told_by e k
+told_then e k told more tells order =
+    flat_map-append telling_by told more ∙ ap (λ (l : List Mark). tellings told ++ l) (untold 2 4 more (omega arith) order)
+    ∙ append-nil (tellings told) ∙ tells
+
 -- whether the share was left, and what holds without an input, of two parts
 or_else : (a b c : Bool) → ((a || b) || c) ≡ (a || (b || c))
 or_else true b c = refl
@@ -102,13 +129,23 @@ left_then a b c more more' one two =
     ∙ ap (λ (t : Bool). a || t) (sym (list_any-append is_leave more more'))
 
 pub holds_itself : (k : Kept) → Holds k k
-holds_itself k = record { last = refl; ended = refl; connected = refl }
+holds_itself k = record { last = refl; now = refl; ended = refl; connected = refl }
 
 pub holds_then : (k k' k'' : Kept) → Holds k k' → Holds k' k'' → Holds k k''
-holds_then k k' k'' one two = record { last = two.last ∙ one.last; ended = two.ended ∙ one.ended; connected = two.connected ∙ one.connected }
+holds_then k k' k'' one two = record {
+  last = two.last ∙ one.last;
+  now = two.now ∙ one.now;
+  ended = two.ended ∙ one.ended;
+  connected = two.connected ∙ one.connected;
+}
 
 pub stays_then : (e : Input) (k k' k'' : Kept) → Stays e k k' → Holds k' k'' → Stays e k k''
-stays_then e k k' k'' one two = record { last = two.last ∙ one.last; ended = two.ended ∙ one.ended; connected = two.connected ∙ one.connected }
+stays_then e k k' k'' one two = record {
+  last = two.last ∙ one.last;
+  now = two.now ∙ one.now;
+  ended = two.ended ∙ one.ended;
+  connected = two.connected ∙ one.connected;
+}
 
 -- a part of an event that adds nothing, one in wider bounds, and two parts
 pub puts_nothing : (low high : ℕ) (v : CoreValue) → Puts low high v v
@@ -185,12 +222,13 @@ brought_sane st (input.Now time) c c' sane b = subst (λ (d : Client). Sane d.vi
 brought_sane st input.End c c' sane b = subst (λ (d : Client). Sane d.view) (sym b) sane
 
 -- an input that tells the client something is taken in, and the parts follow
-pub moves_behind : (e : Input) (old mid new : CoreValue) → Comes e old mid → Puts 2 4 mid new → Moves e old new
-moves_behind e old mid new came puts = record {
+pub moves_behind : (e : Input) (old mid new : CoreValue) → [] ≡ told_by e old.kept → Comes e old mid → Puts 2 4 mid new → Moves e old new
+moves_behind e old mid new none came puts = record {
   more = puts.more;
   setting = puts.setting ∙ came.setting;
   outs = puts.outs ∙ ap (λ (l : List Output). l ++ puts.more) came.outs;
   order = order_wider 2 4 1 4 puts.more (omega arith) (omega arith) puts.order;
+  tells = untold 2 4 puts.more (omega arith) puts.order ∙ none;
   left = λ start. sym (puts.left ∙ ap (λ (t : Bool). t || has_left puts.more) (came.left ∙ start));
   does = λ c c' sane fits brought.
       subst (λ (st : Setting). Does st mid.kept puts.more new.kept) came.setting puts.does c' (brought_sane old.setting e c c' sane brought)
@@ -210,6 +248,7 @@ moves_told e old mid new silent told puts = record {
   setting = puts.setting ∙ told.setting;
   outs = outs_then old.outs mid.outs new.outs told.more puts.more told.outs puts.outs;
   order = order_then 1 2 4 told.more puts.more (omega arith) (omega arith) (order_wider 1 1 1 2 told.more (omega arith) (omega arith) told.order) puts.order;
+  tells = told_then e old.kept told.more puts.more told.tells puts.order;
   left = λ start. sym (left_then (is_left old.kept.phase) (is_left mid.kept.phase) (is_left new.kept.phase) told.more puts.more told.left puts.left
       ∙ ap (λ (t : Bool). t || has_left (told.more ++ puts.more)) start);
   does = λ c c' sane fits brought.

@@ -12,9 +12,8 @@ use Rattle.smb_link.specs.declared.mark.Mark.TheVariants as mark
 use Rattle.smb_link.specs.Program.{Wish, settled}
 use Rattle.smb_mount.specs.declared.facts.Facts.{Facts}
 use Rattle.share_spec.specs.declared.connection.Sent.{Sent}
-use Rattle.fs_plain.specs.Differences.{mids_in}
+use Rattle.fs_plain.specs.Owners.{mids_in, Owner, owner_of}
 use Rattle.fs_plain.specs.Replies.{command_of}
-use Rattle.fs_plain.specs.Replay.{Owner, owner_of}
 use Rattle.fs_plain.specs.Told.{Announcement}
 use Rattle.fs_plain.specs.World.{requests_in}
 use Rattle.fs_client.specs.Item.{Item, item_with, spoken_for}

@@ -17,8 +17,7 @@ use Rattle.smb_mount.specs.Requests.{no_fields, empty_body, negotiate, session_s
 use Rattle.smb_mux.specs.Sending.{costs, head_for, placed, room_of}
 use Rattle.smb_link.specs.declared.event.Event.TheVariants as event
 use Rattle.share_spec.specs.declared.connection.Sent.{Sent}
-use Rattle.fs_plain.specs.Differences.{mids_in}
-use Rattle.fs_plain.specs.Replay.{Owner, owner_of}
+use Rattle.fs_plain.specs.Owners.{mids_in, Owner, owner_of}
 use Rattle.fs_plain.specs.Requests.{WireRequest}
 use Rattle.fs_plain.specs.Told.{Announcement}
 use Rattle.fs_plain.specs.World.{waiting, requests_in}
@@ -272,14 +271,7 @@ pub mount_does : (st : Setting) (k : Kept) (r : Request) (first : Mid) (frame : 
     → Does st k (output.Send frame ∷ []) (sent_aside k.phase first r k)
 mount_does st k r first frame asks written none enough frame_is first_at = mount_in st k k.phase r first frame refl asks written none enough frame_is first_at
 
--- what a phase asks has room
-pub mount_room : (p : Phase) (r : Request) → mount_asks p ≡ Some r → IsWrittenIn p r → room_of (r ∷ []) ≤ MAX_FRAME
-mount_room (phase.Greeting s) r asks written = own_room r (stage_own (Unmounted s) r asks written)
-mount_room (phase.SettingUp s) r asks written = own_room r (stage_own (Agreed s) r asks written)
-mount_room (phase.Answering s) r asks written = own_room r (stage_own (Challenging s) r asks written)
-mount_room (phase.Joining s) r asks written = own_room r (stage_own (InSession s) r asks written)
-mount_room other r asks written = absurd (none_some r asks)
-
+-- each request that leaves the share is short enough for a frame
 pub disconnect_room : (facts : Facts) → room_of (tree_disconnect facts ∷ []) ≤ MAX_FRAME
 disconnect_room facts = own_room (tree_disconnect facts) (disconnect_own facts)
 

@@ -21,7 +21,7 @@ use Rattle.share_spec.specs.declared.connection.Sent.{Sent}
 use Rattle.share_spec.specs.declared.request.Req.{Req}
 use Rattle.share_spec.specs.declared.request.Req.TheVariants as req
 use Rattle.fs_plain.specs.Replies.{command_of}
-use Rattle.fs_plain.specs.Taken.{wish_of}
+use Rattle.fs_plain.specs.Wishes.{wish_of}
 use Rattle.fs_plain.specs.World.{waiting, requests_in, is_creating}
 use Rattle.fs_client.specs.Item.{Item}
 use Rattle.fs_client.specs.View.{Setting, Client}

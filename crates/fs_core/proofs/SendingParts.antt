@@ -65,7 +65,7 @@ sends_puts old new number rs so does = record {
   outs = so.outs;
   order = (omega arith, omega arith, (omega arith, omega arith, record {}));
   left = ap (λ (k : Kept). is_left k.phase) so.kept ∙ not_left (is_left old.kept.phase);
-  holds = subst (Holds old.kept) (sym so.kept) (record { last = refl; ended = refl; connected = refl });
+  holds = subst (Holds old.kept) (sym so.kept) (record { last = refl; now = refl; ended = refl; connected = refl });
   does = subst (Does old.setting old.kept (output.Marked (mark.For number so.first (length rs)) ∷ output.Send so.frame ∷ [])) (sym so.kept) does;
 }
 
@@ -109,7 +109,7 @@ own_puts old new p r first frame setting outs kept beside does = record {
   outs = outs;
   order = (omega arith, omega arith, record {});
   left = ap (λ (k : Kept). is_left k.phase) kept ∙ beside.left ∙ not_left (is_left old.kept.phase);
-  holds = subst (Holds old.kept) (sym kept) (record { last = refl; ended = refl; connected = beside.connected });
+  holds = subst (Holds old.kept) (sym kept) (record { last = refl; now = refl; ended = refl; connected = beside.connected });
   does = subst (Does old.setting old.kept (output.Send frame ∷ [])) (sym kept) does;
 }
 

@@ -34,7 +34,7 @@ use Rattle.fs_plain.specs.Wire.{units_in}
 use Rattle.fs_plain.specs.Masked.{Untold, untold_of_class, untold_of_contexts, untold}
 use Rattle.fs_plain.specs.Replies.{command_of}
 use Rattle.fs_plain.specs.Requests.{WireRequest, create_with, create_asked, close_asked, query_asked, wire_request}
-use Rattle.fs_plain.specs.Taken.{wished_attributes}
+use Rattle.fs_plain.specs.Wishes.{wished_attributes}
 use Rattle.fs_client.specs.Spelled.{create_fields, close_fields, query_fields, fid_sent, request_for}
 use Rattle.fs_core.specs.Written.{IsPath, IsWide}
 use Rattle.fs_core.proofs.SpellingHeads.{behind_header, command_there, asked_there, untold_there, body_there, Everywhere}

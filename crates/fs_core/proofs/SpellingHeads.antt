@@ -1,7 +1,6 @@
 -- A request as it stands in a frame, the last one there or before another: what it asks for goes by its command and by whether it is
 -- related to the one before it.
-use Rattle.std.proofs.Common.{arith, ◌≡◌, ◌∙◌, refl, ap, ap₂, subst, ℕ, ◌-◌, ◌^◌, ◌<◌, ◌==◌, Bool, true, false, if◌then◌else◌, List, [], ◌∷◌, ◌++◌, replicate, None, Result, Ok, length-append, append-nil}
-use Rattle.std.specs.List.{AllByRecursion}
+use Rattle.std.proofs.Common.{arith, ◌≡◌, ◌∙◌, refl, ap, ap₂, ℕ, ◌^◌, ◌<◌, ◌==◌, Bool, true, false, if◌then◌else◌, List, [], ◌++◌, None, Result, Ok, length-append}
 use Rattle.smb_le.specs.Numbers.{number_at, bytes_of}
 use Rattle.smb_le.proofs.NumberLaws.{number_at-bytes_of}
 use Rattle.smb_head.specs.declared.command.TheConstants.{CREATE, QUERY_INFO}
@@ -11,15 +10,14 @@ use Rattle.smb_head.specs.declared.head.HeadFault.{HeadFault}
 use Rattle.smb_head.specs.declared.request.Request.{Request}
 use Rattle.smb_head.specs.Header.{head_at, head_of, header}
 use Rattle.smb_head.proofs.HeadLaws.{head_of-is_header, length-header}
-use Rattle.smb_chain.specs.Chain.{padded, linked, size_of, parts_for}
-use Rattle.smb_credit.specs.Window.{Ids, least, cost, after_use}
+use Rattle.smb_chain.specs.Chain.{linked}
 use Rattle.smb_field.specs.declared.field.Field.{Field}
 use Rattle.smb_field.specs.Body.{IsBody, IsReadAgain, spelling}
 use Rattle.smb_field.specs.Rows.{if_read}
 use Rattle.smb_body_b.specs.Contexts.{read_of}
 use Rattle.smb_body_b.specs.Create.{create_request_of}
 use Rattle.smb_body_c.specs.Info.{query_info_request_of}
-use Rattle.smb_mux.specs.Sending.{head_for, message_for, placed}
+use Rattle.smb_mux.specs.Sending.{head_for}
 use Rattle.share_spec.specs.State.{has}
 use Rattle.fs_plain.specs.Masked.{Untold, untold_of_class, untold_of_contexts, untold_with, untold}
 use Rattle.fs_plain.specs.Replies.{command_of}
@@ -103,14 +101,3 @@ body_there mid r place rest size fields part again = again (header (linked (head
 -- something holds of a request wherever it stands
 abbrev pub Everywhere : (List ℕ → Type 0) → Request → Type 0
 Everywhere P r = (mid place : ℕ) (rest : List ℕ) → P (behind_header mid r place (r.body ++ rest))
-
--- and so of all messages of a frame
-pub all_there : (P : List ℕ → Type 0) (rs : List Request) (ids : Ids) → AllByRecursion (Everywhere P) rs → AllByRecursion P (parts_for (placed ids rs))
-all_there P [] ids all = tt
-all_there P (r ∷ []) ids all =
-    (subst (λ (b : List ℕ). P (header (linked (head_for (least ids) r) 0) ++ b)) (append-nil r.body) (all.0 (least ids) 0 []), tt)
-all_there P (r ∷ second ∷ rs) ids all =
-    let m = message_for (least ids) r in (
-      all.0 (least ids) (padded (size_of m)) (replicate (padded (size_of m) - size_of m) 0),
-      all_there P (second ∷ rs) (after_use (cost r.charge) ids) all.1,
-    )

@@ -16,7 +16,7 @@ use Rattle.smb_link.specs.Program.{File, Wish, Open as Opening, Query, Close}
 use Rattle.share_spec.specs.declared.connection.LastCreate.TheVariants as last
 use Rattle.fs_plain.specs.Replies.{command_of}
 use Rattle.fs_plain.specs.Requests.{WireRequest}
-use Rattle.fs_plain.specs.Taken.{wish_of}
+use Rattle.fs_plain.specs.Wishes.{wish_of}
 use Rattle.fs_plain.specs.World.{waiting}
 use Rattle.fs_client.specs.After.{cost_of}
 use Rattle.fs_client.specs.Asked.{AsksAs, Asks}

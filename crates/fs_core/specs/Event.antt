@@ -1,5 +1,5 @@
 -- What an event of the core does: the outputs that it adds are what the client may do, one after the other, once the input came.
-use Rattle.std.specs.Prelude.{◌≡◌, ℕ, ◌<◌, ◌≤◌, ◌||◌, Bool, true, false, List, [], ◌∷◌, ◌++◌, Option, Some, None, Ok, Err}
+use Rattle.std.specs.Prelude.{◌≡◌, ℕ, ◌<◌, ◌≤◌, ◌||◌, max, Bool, true, false, List, [], ◌∷◌, ◌++◌, Option, Some, None, Ok, Err}
 use Rattle.std.specs.List.{flat_map, list_any}
 use Rattle.smb_head.specs.declared.command.TheConstants.{QUERY_INFO, LOGOFF}
 use Rattle.smb_head.specs.declared.request.Request.{Request}
@@ -72,6 +72,27 @@ abbrev pub AreInOrder : ℕ → ℕ → List Output → Type 0
 AreInOrder low high [] = Unit {0}
 AreInOrder low high (o ∷ os) = (low ≤ rank o) × (rank o ≤ high) × AreInOrder (rank o) high os
 
+-- what a mark tells of the core itself: a beginning, the clock, the end, and nothing where it says what a frame is for, or an answer
+abbrev pub telling_of : Mark → List Mark
+telling_of (mark.For number first count) = []
+telling_of (mark.Answer number a) = []
+telling_of other = other ∷ []
+
+abbrev pub telling_by : Output → List Mark
+telling_by (output.Marked m) = telling_of m
+telling_by other = []
+
+-- what outputs tell of the core itself, in their order
+abbrev pub tellings : List Output → List Mark
+tellings outs = flat_map telling_by outs
+
+-- what an input has the core tell of itself: its beginning; the latest time that the clock read; the end
+abbrev pub told_by : Input → Kept → List Mark
+told_by (input.Begin number lane call) k = mark.Begin number lane call ∷ []
+told_by (input.Now time) k = mark.Now (max k.now time) ∷ []
+told_by input.End k = mark.End ∷ []
+told_by other k = []
+
 -- the share is left
 abbrev pub is_leave : Output → Bool
 is_leave output.Left = true
@@ -101,10 +122,14 @@ abbrev pub is_left : Phase → Bool
 is_left phase.Left = true
 is_left other = false
 
--- what an input makes of the number of the last line, of the end, and of whether a connection stands
+-- what an input makes of the number of the last line, of the time, of the end, and of whether a connection stands
 abbrev pub last_after : Input → Option ℕ → Option ℕ
 last_after (input.Begin number lane call) last = Some number
 last_after other last = last
+
+abbrev pub now_after : Input → ℕ → ℕ
+now_after (input.Now time) now = max now time
+now_after other now = now
 
 abbrev pub ended_after : Input → Bool → Bool
 ended_after input.End ended = true
@@ -117,12 +142,14 @@ connected_after other connected = connected
 
 pub record Stays (e : Input) (k k' : Kept) : Type 0 where
   pub last : k'.last ≡ last_after e k.last
+  pub now : k'.now ≡ now_after e k.now
   pub ended : k'.ended ≡ ended_after e k.ended
   pub connected : is_connected k'.phase ≡ connected_after e (is_connected k.phase)
 
 -- what comes without an input leaves all that as it was
 pub record Holds (k k' : Kept) : Type 0 where
   pub last : k'.last ≡ k.last
+  pub now : k'.now ≡ k.now
   pub ended : k'.ended ≡ k.ended
   pub connected : is_connected k'.phase ≡ is_connected k.phase
 
@@ -146,6 +173,7 @@ pub record Tells (e : Input) (old new : CoreValue) : Type 0 where
   pub setting : new.setting ≡ old.setting
   pub outs : new.outs ≡ old.outs ++ more
   pub order : AreInOrder 1 1 more
+  pub tells : tellings more ≡ told_by e old.kept
   pub left : is_left new.kept.phase ≡ (is_left old.kept.phase || has_left more)
   pub stays : Stays e old.kept new.kept
   pub does : Does old.setting old.kept more new.kept
@@ -158,12 +186,13 @@ Brought st input.Joined c c' = (c.view.connected ≡ false) × (c' ≡ after st 
 Brought st input.Cut c c' = (c.view.connected ≡ true) × (c' ≡ after st c event.Cut)
 Brought st other c c' = c' ≡ c
 
--- an event adds outputs that the client may do once the input came
+-- an event adds outputs that the client may do once the input came, and tells of the core itself what the input has it tell
 pub record Moves (e : Input) (old new : CoreValue) : Type 0 where
   pub more : List Output
   pub setting : new.setting ≡ old.setting
   pub outs : new.outs ≡ old.outs ++ more
   pub order : AreInOrder 1 4 more
+  pub tells : tellings more ≡ told_by e old.kept
   pub left : is_left old.kept.phase ≡ false → has_left more ≡ is_left new.kept.phase
   pub does : (c c' : Client) → Sane c.view → Fits old.setting old.kept c → Brought old.setting e c c'
       → Allowed old.setting c' (events_of more) × Fits old.setting new.kept (all_after old.setting c' (events_of more))

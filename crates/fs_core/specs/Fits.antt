@@ -13,7 +13,7 @@ use Rattle.smb_link.specs.Stat.{stat_answer, stat_once_open}
 use Rattle.smb_mount.specs.declared.facts.Facts.{Facts}
 use Rattle.fs_plain.specs.Replies.{command_of}
 use Rattle.fs_plain.specs.Requests.{WireRequest, wire_request}
-use Rattle.fs_plain.specs.Replay.{Owner, owner_of}
+use Rattle.fs_plain.specs.Owners.{Owner, owner_of}
 use Rattle.fs_plain.specs.World.{is_creating}
 use Rattle.smb_mount.specs.Kept.{Start}
 use Rattle.fs_client.specs.View.{Setting, Client}

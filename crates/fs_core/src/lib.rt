@@ -23,3 +23,4 @@ pub use fault::{CoreFault, Protocol};
 pub use input::Input;
 pub use machine::Core;
 pub use output::Output;
+pub use read::{WireFault, read_reply};

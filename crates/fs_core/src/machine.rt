@@ -238,7 +238,7 @@ impl Core {
         self.state.phase = mem::replace(&mut self.state.phase, Phase::Lost).greeting();
     }
 
-    // The clock reads a time; it never goes back.
+    // The clock reads a time, and the latest one is told; it never goes back.
     fn note_time(&mut self, time: u64) -> Result<(), CoreFault>
         ensures tells { OnOk result (Tells (input.Now time) self.old self.new) }
         ensures err { IfErr result (λ f. f ≡ fault.NoMemory) }

@@ -1,3 +1,4 @@
+use Rattle.std.proofs.Common.{refl}
 use Rattle.std.proofs.lemmas.Result.{on_ok_weaker}
 use Rattle.fs_core.specs.declared.input.Input.TheVariants as input
 use Rattle.fs_core.specs.Event.{Comes}
@@ -8,7 +9,7 @@ use Rattle.fs_core.proofs.machine.Core.join.Goals as goal
 pub returns-clause-goes : goal.returns-clause-goes
 returns-clause-goes c =
     let comes : Comes input.Joined c.args.self.now c.greet.new.self = comes_greeting c.args.self.now c.greet.new.self c.requires.apart c.greet.ensures in
-    on_ok_weaker c.go_on.result (moves_behind input.Joined c.args.self.now c.greet.new.self c.go_on.new.self comes) c.go_on.ensures.puts
+    on_ok_weaker c.go_on.result (moves_behind input.Joined c.args.self.now c.greet.new.self c.go_on.new.self refl comes) c.go_on.ensures.puts
 
 pub returns-clause-stays : goal.returns-clause-stays
 returns-clause-stays c =
