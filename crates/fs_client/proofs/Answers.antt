@@ -9,7 +9,7 @@ use Rattle.fs_types.specs.declared.answer.Answer.{Answer}
 use Rattle.share_spec.specs.declared.connection.Sent.{Sent}
 use Rattle.smb_link.specs.declared.event.Event.TheVariants as event
 use Rattle.smb_link.specs.declared.mark.Mark.TheVariants as mark
-use Rattle.fs_plain.specs.Replay.{Owner, owner_of}
+use Rattle.fs_plain.specs.Owners.{Owner, owner_of}
 use Rattle.fs_client.specs.Item.{Item, item_with, items_but}
 use Rattle.fs_client.specs.View.{Setting, View}
 use Rattle.fs_client.specs.After.{view_after}

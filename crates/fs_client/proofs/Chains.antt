@@ -19,7 +19,7 @@ use Rattle.smb_link.specs.Program.{File, Wish, Program, Known, Ask, settled}
 use Rattle.fs_plain.specs.Paired.{open_given}
 use Rattle.fs_plain.specs.Masked.{Untold, untold}
 use Rattle.fs_plain.specs.Requests.{WireRequest, wire_request}
-use Rattle.fs_plain.specs.Taken.{wish_of}
+use Rattle.fs_plain.specs.Wishes.{wish_of}
 use Rattle.fs_plain.specs.World.{is_creating, refusal_before, came_to}
 use Rattle.fs_client.specs.Item.{fids_with, fids_after}
 use Rattle.fs_client.specs.Asked.{creates, creates_as, is_refused, refused_as, AsksAs, Asks, fits, behind_it}

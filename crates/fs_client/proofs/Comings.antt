@@ -26,7 +26,7 @@ use Rattle.smb_info.specs.Attributes.{all_of}
 use Rattle.fs_plain.specs.Masked.{untold}
 use Rattle.fs_plain.specs.Requests.{wire_request}
 use Rattle.fs_plain.specs.Replies.{reply_in, is_aside_reply}
-use Rattle.fs_plain.specs.Replay.{nothing_known}
+use Rattle.fs_plain.specs.Facts.{nothing_known}
 use Rattle.fs_plain.proofs.Frames.{interim_frame, opened_frame, told_frame, missing_chain_frame, chain_frame}
 use Rattle.fs_client.specs.Item.{Item, item_with}
 use Rattle.fs_client.specs.View.{View, Client}

@@ -8,10 +8,9 @@ use Rattle.smb_base.specs.declared.names.Mid.{Mid}
 use Rattle.smb_le.specs.Numbers.{number_at}
 use Rattle.smb_chain.specs.declared.parts.BadNext.{BadNext}
 use Rattle.share_spec.specs.declared.connection.Sent.{Sent}
-use Rattle.fs_plain.specs.Differences.{mids_among, from}
+use Rattle.fs_plain.specs.Owners.{mids_among, from, Owner, owner_of}
 use Rattle.fs_plain.specs.Requests.{wire_request}
 use Rattle.fs_plain.specs.World.{mid_of, waiting, requests_among, first_mid}
-use Rattle.fs_plain.specs.Replay.{Owner, owner_of}
 use Rattle.fs_plain.specs.Told.{Announcement, is_outside}
 use Rattle.fs_client.specs.After.{cost_of, costs_among}
 use Rattle.fs_client.specs.Spelled.{AreNext}

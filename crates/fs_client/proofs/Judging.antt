@@ -32,7 +32,7 @@ use Rattle.fs_plain.specs.Requests.{WireRequest, wire_request}
 use Rattle.fs_plain.specs.Replies.{answers, command_of, reply_by_status, reply_with, reply_in, is_aside_by_status, aside_with, is_aside_reply}
 use Rattle.fs_plain.specs.Masked.{untold}
 use Rattle.fs_plain.specs.World.{mid_of, is_first_of_frame}
-use Rattle.fs_plain.specs.Replay.{owner_of}
+use Rattle.fs_plain.specs.Owners.{owner_of}
 use Rattle.fs_client.specs.View.{View}
 use Rattle.fs_client.specs.Asked.{fits}
 use Rattle.fs_client.specs.Looks.{is_early, awaited_with, went, in_turn, drained_with, drained, landed_by, without, answers_aside, looked_reply, looked_as, looked_for, looked, all_looked}

@@ -11,7 +11,7 @@ use Rattle.share_spec.specs.Reply.{of_status}
 use Rattle.share_spec.specs.Sent.{behind_create, sent_but, sent_with}
 use Rattle.fs_plain.specs.Masked.{masked}
 use Rattle.fs_plain.specs.Requests.{WireRequest, wire_request}
-use Rattle.fs_plain.specs.Replay.{Owner, owner_of}
+use Rattle.fs_plain.specs.Owners.{Owner, owner_of}
 use Rattle.fs_plain.specs.World.{came_to, is_first_of_frame}
 use Rattle.fs_client.specs.View.{View}
 use Rattle.fs_client.specs.Asked.{creates_as, is_refused, fits, left_by}

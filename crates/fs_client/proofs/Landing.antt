@@ -16,7 +16,7 @@ use Rattle.smb_link.specs.Program.{Program, Known, Ask, Look, Say, settled, repl
 use Rattle.fs_plain.specs.Requests.{WireRequest, wire_request}
 use Rattle.fs_plain.specs.Replies.{reply_in, is_aside_reply}
 use Rattle.fs_plain.specs.World.{mid_of, is_first_of_frame, came_to}
-use Rattle.fs_plain.specs.Replay.{Owner, owner_of}
+use Rattle.fs_plain.specs.Owners.{Owner, owner_of}
 use Rattle.fs_client.specs.Item.{Item, Placed, item_with, on_item, gone_on, fids_after}
 use Rattle.fs_client.specs.View.{View}
 use Rattle.fs_client.specs.Asked.{is_refused, creates_as, fits, behind_it, left_by}

@@ -7,7 +7,7 @@ use Rattle.fs_types.specs.declared.call.Call.{Call}
 use Rattle.share_spec.specs.declared.connection.Sent.{Sent}
 use Rattle.smb_link.specs.declared.event.Event.TheVariants as event
 use Rattle.smb_link.specs.declared.mark.Mark.TheVariants as mark
-use Rattle.fs_plain.specs.Replay.{Owner, owner_of}
+use Rattle.fs_plain.specs.Owners.{Owner, owner_of}
 use Rattle.fs_plain.specs.Told.{Told, was_begun}
 use Rattle.fs_client.specs.Item.{Item, Placed, item_with, spoken_for}
 use Rattle.fs_client.specs.View.{Setting, View}

@@ -10,7 +10,7 @@ use Rattle.share_spec.specs.declared.connection.Sent.{Sent}
 use Rattle.share_spec.specs.declared.request.Rep.{Rep}
 use Rattle.share_spec.specs.Sent.{sent_but, sent_with}
 use Rattle.smb_link.specs.Program.{Known}
-use Rattle.fs_plain.specs.Replay.{Owner, owner_of}
+use Rattle.fs_plain.specs.Owners.{Owner, owner_of}
 use Rattle.fs_plain.specs.Told.{Told, Announcement}
 use Rattle.fs_plain.specs.World.{is_first_of_frame}
 use Rattle.fs_client.specs.Item.{Item, item_with, on_item, items_but, spoken_for, flown, gone_on}

@@ -43,7 +43,7 @@ use Rattle.fs_plain.specs.Requests.{wire_request}
 use Rattle.fs_plain.specs.Replies.{reply_in, is_aside_reply}
 use Rattle.fs_plain.specs.World.{waiting, requests_in}
 use Rattle.fs_plain.proofs.Frames.{opened_frame, told_frame, refused_frame, chain_frame, missing_chain_frame}
-use Rattle.fs_plain.specs.Replay.{nothing_known}
+use Rattle.fs_plain.specs.Facts.{nothing_known}
 use Rattle.fs_client.specs.Item.{Item}
 use Rattle.fs_client.specs.Flies.{FliesAs, files_of}
 use Rattle.fs_client.specs.Spelled.{every_bit}

@@ -10,8 +10,7 @@ use Rattle.share_spec.specs.declared.connection.Owed.{Owed}
 use Rattle.share_spec.specs.declared.connection.Sent.{Sent}
 use Rattle.smb_link.specs.declared.event.Event.TheVariants as event
 use Rattle.smb_link.specs.declared.mark.Mark.TheVariants as mark
-use Rattle.fs_plain.specs.Differences.{mids_in}
-use Rattle.fs_plain.specs.Replay.{Owner}
+use Rattle.fs_plain.specs.Owners.{mids_in, Owner}
 use Rattle.fs_plain.specs.Told.{Told, Announcement}
 use Rattle.fs_plain.specs.World.{requests_in}
 use Rattle.fs_client.specs.Item.{Item, item_with, items_but, spoken_for}

@@ -8,7 +8,7 @@ use Rattle.share_spec.specs.declared.connection.Sent.{Sent}
 use Rattle.share_spec.specs.declared.request.Rep.{Rep}
 use Rattle.share_spec.specs.PlainShare.{shown}
 use Rattle.smb_link.specs.Program.{File, Program, Known, Ask, Look, Say, settled}
-use Rattle.fs_plain.specs.Taken.{wish_of}
+use Rattle.fs_plain.specs.Wishes.{wish_of}
 use Rattle.fs_client.specs.Item.{Item, Placed, fids_after, fid_named, file_id}
 use Rattle.fs_client.specs.Asked.{is_refused, Asks, fits, behind_it}
 

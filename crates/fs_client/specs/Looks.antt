@@ -12,7 +12,7 @@ use Rattle.share_spec.specs.Sent.{sent_but, sent_with}
 use Rattle.fs_plain.specs.Requests.{WireRequest, wire_request}
 use Rattle.fs_plain.specs.Replies.{reply_in, is_aside_reply}
 use Rattle.fs_plain.specs.World.{mid_of, is_first_of_frame}
-use Rattle.fs_plain.specs.Replay.{Owner, owner_of}
+use Rattle.fs_plain.specs.Owners.{Owner, owner_of}
 use Rattle.fs_plain.specs.Masked.{masked}
 use Rattle.fs_client.specs.Item.{Item, on_item, gone_on}
 use Rattle.fs_client.specs.View.{View}

@@ -16,7 +16,7 @@ use Rattle.smb_link.specs.declared.mark.Mark.{Mark}
 use Rattle.smb_link.specs.declared.mark.Mark.TheVariants as mark
 use Rattle.smb_link.specs.Calls.{is_there}
 use Rattle.smb_link.specs.Program.{Wish, Program, Ask, Look, Say, settled, of_errno}
-use Rattle.fs_plain.specs.Differences.{mids_in}
+use Rattle.fs_plain.specs.Owners.{mids_in}
 use Rattle.fs_plain.specs.Requests.{WireRequest, wire_request}
 use Rattle.fs_plain.specs.Replies.{command_of}
 use Rattle.fs_plain.specs.Told.{Announcement}

@@ -6,7 +6,7 @@ use Rattle.share_spec.specs.declared.connection.Sent.{Sent}
 use Rattle.share_spec.specs.declared.request.Rep.{Rep}
 use Rattle.fs_plain.specs.Masked.{masked}
 use Rattle.fs_plain.specs.Requests.{WireRequest, wire_request}
-use Rattle.fs_plain.specs.Replay.{owner_of}
+use Rattle.fs_plain.specs.Owners.{owner_of}
 use Rattle.share_spec.specs.Sent.{sent_with}
 use Rattle.fs_plain.specs.World.{is_first_of_frame}
 use Rattle.fs_client.specs.View.{View}

@@ -20,7 +20,7 @@ use Rattle.smb_mux.specs.Sending.{costs, placed, room_of}
 use Rattle.smb_link.specs.Program.{File, Wish, Open as Opening, Query, Close}
 use Rattle.fs_plain.specs.Requests.{wire_request}
 use Rattle.fs_plain.specs.World.{mid_of}
-use Rattle.fs_plain.specs.Taken.{wished_attributes}
+use Rattle.fs_plain.specs.Wishes.{wished_attributes}
 use Rattle.fs_client.specs.View.{Client}
 use Rattle.fs_client.specs.After.{parts_sent, cost_of}
 

@@ -1,24 +1,19 @@
 -- The laws of shares that are alike: all that proofs about runs may use of it.
 use Rattle.std.proofs.Common.{◌≡◌, ◌≤◌, ℕ, true, false, [], ◌∷◌, ◌++◌, refl, ap, sym, subst, ◌∙◌, None, Some, List, Option, Bool, ◌==◌, not, ◌&&◌, if◌then◌else◌}
-use Rattle.std.specs.Prelude.{map, unwrap_or, option_map, ◌||◌}
 use Rattle.std.specs.List.{list_all}
 use Rattle.std.proofs.lemmas.Bool.{false≢true}
 use Rattle.smb_base.specs.declared.names.Key.{Key}
-use Rattle.smb_base.specs.declared.names.Fid.{Fid}
 use Rattle.share_spec.specs.declared.connection.Grant.{Grant}
 use Rattle.share_spec.specs.declared.lease.Lease.{Lease}
 use Rattle.share_spec.specs.declared.opens.Open.{Open}
 use Rattle.share_spec.specs.declared.request.Who.{Who}
 use Rattle.share_spec.specs.declared.request.Req.{Req}
-use Rattle.share_spec.specs.declared.request.Req.TheVariants as req
 use Rattle.share_spec.specs.declared.request.Rep.{Rep}
-use Rattle.share_spec.specs.declared.request.RepBody.{RepBody}
-use Rattle.share_spec.specs.declared.request.RepBody.TheVariants as body
 use Rattle.share_spec.specs.declared.share.Share.{Share}
 use Rattle.share_spec.specs.Built.{is_built}
 use Rattle.share_spec.specs.Close.{has_open_of_key, kept_leases, closed, close_open}
 use Rattle.share_spec.specs.Cut.{after_cut}
-use Rattle.share_spec.specs.Reply.{fid_of, map_fid}
+use Rattle.share_spec.specs.Reply.{map_fid}
 use Rattle.share_spec.specs.State.{Making}
 use Rattle.share_spec.specs.Step.{step_of}
 use Rattle.share_spec.specs.PlainShare.{plain_step, shown}
@@ -26,56 +21,18 @@ use Rattle.smb_link.specs.declared.event.Event.{Event}
 use Rattle.smb_link.specs.declared.event.Event.TheVariants as event
 use Rattle.fs_plain.specs.World.{happens}
 use Rattle.fs_plain.specs.Honest.{start}
-use Rattle.fs_plain.specs.Replay.{plain_of, opened_number}
-use Rattle.fs_plain.specs.Differences.{with_number, closed_if, all_plain_ended, ended_between, carried_fid}
 use Rattle.fs_plain.specs.Same.{same_reply}
-use Rattle.fs_plain.specs.View.{NamesIn}
-use Rattle.fs_plain.specs.Related.{bare, AreStanding, AreSame}
-use Rattle.fs_plain.specs.Paired.{Pair, pair_of_real, open_given, paired, pair_given}
+use Rattle.fs_plain.specs.Alike.{bare, AreStanding, AreSame, IsIdentical, Alike, HasNoLeaseOfOurs}
+use Rattle.fs_plain.specs.Paired.{Pair, plain_of_real, pair_given}
 use Rattle.fs_plain.specs.PlainSide.{PlainSide, plain_side}
-use Rattle.fs_plain.specs.Divergence.{plain_of_real, fid_carried, all_ended_with, side_after_ends}
-use Rattle.fs_plain.specs.Alike.{numbers, IsIdentical, Alike, HasNoLeaseOfOurs}
+use Rattle.fs_plain.specs.Divergence.{ended_between, fid_carried, all_ended_with, side_after_ends}
 use Rattle.fs_plain.proofs.PlainTree.{bare_of}
 use Rattle.fs_plain.proofs.Steps.{step_counts, step_numbers, step_names}
-use Rattle.fs_plain.proofs.Identity.{none_made}
+use Rattle.fs_plain.proofs.Identity.{none_made, pairs_counted}
 use Rattle.fs_plain.proofs.Carried.{act_same}
-use Rattle.fs_plain.proofs.Acts.{pairs_counted}
 use Rattle.fs_plain.proofs.Cutting.{cut_tree, cut_standing, cut_made}
 use Rattle.fs_plain.proofs.SameLaws.{reply_itself}
-use Rattle.fs_plain.proofs.ShareEvents.{none_drops, stands_there, none_of}
-
--- the plain open of a real one, by the pairs' numbers
-plain_number : (pairs : List Pair) (real : ℕ) → plain_of_real pairs real ≡ plain_of (map numbers pairs) real
-plain_number [] real = refl
-plain_number (p ∷ pairs) real = by (p.real == real) (plain_number pairs real)
-  where
-    by : (t : Bool) → plain_of_real pairs real ≡ plain_of (map numbers pairs) real
-        → unwrap_or (option_map (λ (pair : Pair). pair.plain) (if t then Some p else pair_of_real real pairs)) 0
-        ≡ (if t then p.plain else plain_of (map numbers pairs) real)
-    by true later = refl
-    by false later = later
-
-fid_number : (pairs : List Pair) (fid : Fid) → fid_carried pairs fid ≡ carried_fid (map numbers pairs) fid
-fid_number pairs fid = ap (λ (n : ℕ). if fid.persistent == fid.volatile then fid_of n else fid_of 0) (plain_number pairs fid.persistent)
-
-request_number : (pairs : List Pair) (r : Req) → map_fid (fid_carried pairs) r ≡ map_fid (carried_fid (map numbers pairs)) r
-request_number pairs (req.Create path access share disposition options attributes lease durable) = refl
-request_number pairs (req.Close fid) = ap (λ (f : Fid). req.Close f) (fid_number pairs fid)
-request_number pairs (req.Query fid) = ap (λ (f : Fid). req.Query f) (fid_number pairs fid)
-request_number pairs (req.Flush a) = refl
-request_number pairs (req.Room a) = refl
-request_number pairs (req.Read a b c) = refl
-request_number pairs (req.Write a b c) = refl
-request_number pairs (req.Lock a b c d) = refl
-request_number pairs (req.Unlock a b c) = refl
-request_number pairs (req.List a b c) = refl
-request_number pairs (req.SetBasic a b) = refl
-request_number pairs (req.SetEnd a b) = refl
-request_number pairs (req.SetPending a b) = refl
-request_number pairs (req.Rename a b c) = refl
-request_number pairs (req.LinkTo a b c) = refl
-request_number pairs (req.Ack a b) = refl
-request_number pairs (req.Reclaim a b) = refl
+use Rattle.fs_plain.proofs.Dropping.{none_drops, stands_there, none_of}
 
 -- at the start of a story they are
 pub alike_start : (made : Making) (story : List Event) → Alike (start made.room made.fold story) (plain_side made story)
@@ -88,21 +45,9 @@ unfolding Alike
 alike_beside s s' p same old = record {
   tree = old.tree ∙ sym same;
   standing = subst (λ (t : Share). AreStanding t) (sym same) old.standing;
-  pairs = subst (λ (t : Share). AreSame (map numbers p.pairs) t.opens_made) (sym same) old.pairs;
+  pairs = subst (λ (t : Share). AreSame p.pairs t.opens_made) (sym same) old.pairs;
   kept = old.kept;
 }
-
--- the pair that a reply gives on both shares
-pair_numbers : (path : List ℕ) (b : RepBody) (pairs : List Pair) → NamesIn b
-    → map numbers (paired path (open_given b) (open_given b) ++ pairs) ≡ (if opened_number b == 0 || opened_number b == 0 then [] else (opened_number b, opened_number b) ∷ []) ++ map numbers pairs
-pair_numbers path (body.Opened fid action size attributes lease durable) pairs names =
-    sym (ap (λ (t : Bool). (if t || t then [] else (fid.persistent, fid.persistent) ∷ []) ++ map numbers pairs) names.1)
-pair_numbers path body.None pairs names = refl
-pair_numbers path (body.Bytes a) pairs names = refl
-pair_numbers path (body.Count a) pairs names = refl
-pair_numbers path (body.Info a b c d e f) pairs names = refl
-pair_numbers path (body.Names a) pairs names = refl
-pair_numbers path (body.Room a b) pairs names = refl
 
 -- what a request comes to on the plain share, with its file id carried over
 abbrev pub carried_step : PlainSide → Who → Req → Rep × Share
@@ -116,8 +61,7 @@ carried_same : (choice : Option Grant) (s : Share) (p : PlainSide) (who : Who) (
     → carried_step p who r ≡ bare_of (step_of choice s who r)
 carried_same choice s p who r built old =
     ap (λ (t : Share). plain_step t who (map_fid (fid_carried p.pairs) r)) old.tree
-    ∙ ap (plain_step (bare s) who) (request_number p.pairs r)
-    ∙ act_same (map numbers p.pairs) choice s who r old.pairs old.standing built
+    ∙ act_same p.pairs choice s who r old.pairs old.standing built
 
 -- the same request, of this client or another, has the same reply on both shares, apart from file ids and grants, whatever was
 -- chosen; and they stay alike, with the pair of opens that came of it
@@ -132,8 +76,7 @@ alike_step choice s p who r path built old =
       record {
         tree = refl;
         standing = step_numbers choice s who r built old.standing;
-        pairs = subst (λ (l : List (ℕ × ℕ)). AreSame l done.1.opens_made) (sym (pair_numbers path done.0.body p.pairs (step_names choice s who r)))
-            (pairs_counted (map numbers p.pairs) s done (step_counts choice s who r) old.pairs);
+        pairs = pairs_counted path p.pairs s done (step_names choice s who r) (step_counts choice s who r) old.pairs;
         kept = old.kept;
       },
     )
@@ -149,7 +92,7 @@ alike_act choice s p who r built old =
 -- an open that this client was given has its pair, and the plain open stands where the real one does
 pub alike_knows : (s : Share) (p : PlainSide) (n : ℕ) → 1 ≤ n → n ≤ s.opens_made → Alike s p → plain_of_real p.pairs n ≡ n
 unfolding Alike
-alike_knows s p n low high old = plain_number p.pairs n ∙ old.pairs.known n low high
+alike_knows s p n low high old = old.pairs.known n low high
 
 -- where no open of this client stands the share is left as the plain client leaves it
 pub alike_clear : (s : Share) (p : PlainSide) → Alike s p → (s.nodes ≡ p.plain.nodes) × (s.entries ≡ p.plain.entries)
@@ -157,21 +100,15 @@ unfolding Alike
 alike_clear s p old = (sym (ap (λ (t : Share). t.nodes) old.tree), sym (ap (λ (t : Share). t.entries) old.tree))
 
 -- the opens that end with a connection, or are dropped, end on both
-all_numbers : (pairs : List Pair) (os : List Open) (plain : Share) → all_ended_with pairs os plain ≡ all_plain_ended (map numbers pairs) os plain
-all_numbers pairs [] plain = refl
-all_numbers pairs (o ∷ os) plain =
-    ap (λ (n : ℕ). all_ended_with pairs os (closed_if (with_number n plain.opens) plain)) (plain_number pairs o.number)
-    ∙ all_numbers pairs os (closed_if (with_number (plain_of (map numbers pairs) o.number) plain.opens) plain)
-
 pub alike_cut : (s : Share) (p : PlainSide) → Alike s p → Alike (after_cut s) (side_after_ends s event.Cut p)
 unfolding Alike
 alike_cut s p old =
     let ended : List Open = ended_between s.opens (after_cut s).opens in
     record {
-      tree = all_numbers p.pairs ended p.plain ∙ ap (all_plain_ended (map numbers p.pairs) ended) old.tree
-          ∙ cut_tree s (map numbers p.pairs) old.standing.0 old.standing.1 old.pairs;
+      tree = ap (all_ended_with p.pairs ended) old.tree
+          ∙ cut_tree s p.pairs old.standing.0 old.standing.1 old.pairs;
       standing = cut_standing s old.standing;
-      pairs = subst (AreSame (map numbers p.pairs)) (sym (cut_made s)) old.pairs;
+      pairs = subst (AreSame p.pairs) (sym (cut_made s)) old.pairs;
       kept = old.kept;
     }
 
@@ -214,14 +151,14 @@ unfolding Alike
 alike_calls s p q plain pairs kept old = record {
   tree = plain ∙ old.tree;
   standing = old.standing;
-  pairs = subst (λ (l : List Pair). AreSame (map numbers l) s.opens_made) (sym pairs) old.pairs;
+  pairs = subst (λ (l : List Pair). AreSame l s.opens_made) (sym pairs) old.pairs;
   kept = kept ∙ old.kept;
 }
 
 -- the number 0 names no open, on either share
 pub alike_none : (s : Share) (p : PlainSide) → Alike s p → plain_of_real p.pairs 0 ≡ 0
 unfolding Alike
-alike_none s p old = plain_number p.pairs 0 ∙ old.pairs.none
+alike_none s p old = old.pairs.none
 
 -- each open of the plain share has a number of its own that was given, and is connected
 pub alike_stands : (s : Share) (p : PlainSide) → Alike s p → AreStanding p.plain

@@ -15,9 +15,9 @@ use Rattle.share_spec.specs.Close.{open_of, is_open_of, close_open}
 use Rattle.share_spec.specs.Query.{query_open}
 use Rattle.share_spec.specs.Step.{step_of}
 use Rattle.share_spec.specs.PlainShare.{plain_step}
-use Rattle.fs_plain.specs.Replay.{plain_of}
-use Rattle.fs_plain.specs.Differences.{carried_fid}
-use Rattle.fs_plain.specs.Related.{bare, IsStanding, AreStanding, AreSame}
+use Rattle.fs_plain.specs.Paired.{Pair, plain_of_real}
+use Rattle.fs_plain.specs.Divergence.{fid_carried}
+use Rattle.fs_plain.specs.Alike.{bare, IsStanding, AreStanding, AreSame}
 use Rattle.fs_plain.proofs.PlainTree.{bare_of, step_bare}
 use Rattle.fs_plain.proofs.Identity.{same_test}
 
@@ -37,15 +37,15 @@ not_zero o low = ap (λ (t : Bool). t && t) (no o low)
     no : (o : ℕ) → 1 ≤ o → (o == 0) ≡ false
     no o low = search rules
 
-number_test : (pairs : List (ℕ × ℕ)) (made o p v : ℕ) → AreSame pairs made → 1 ≤ o → o ≤ made
-    → (o == (if p == v then fid_of (plain_of pairs p) else fid_of 0).persistent
-    && o == (if p == v then fid_of (plain_of pairs p) else fid_of 0).volatile)
+number_test : (pairs : List Pair) (made o p v : ℕ) → AreSame pairs made → 1 ≤ o → o ≤ made
+    → (o == (if p == v then fid_of (plain_of_real pairs p) else fid_of 0).persistent
+    && o == (if p == v then fid_of (plain_of_real pairs p) else fid_of 0).volatile)
     ≡ (o == p && o == v)
 number_test pairs made o p v same low high = elim (eqb_tells p v) [
-  | inl told ↦ ap (λ (t : Bool). o == (if t then fid_of (plain_of pairs p) else fid_of 0).persistent && o == (if t then fid_of (plain_of pairs p) else fid_of 0).volatile) told.0
+  | inl told ↦ ap (λ (t : Bool). o == (if t then fid_of (plain_of_real pairs p) else fid_of 0).persistent && o == (if t then fid_of (plain_of_real pairs p) else fid_of 0).volatile) told.0
       ∙ ap (λ (t : Bool). t && t) (same_test pairs made o p same low high)
       ∙ ap (λ (q : ℕ). o == p && o == q) told.1
-  | inr told ↦ ap (λ (t : Bool). o == (if t then fid_of (plain_of pairs p) else fid_of 0).persistent && o == (if t then fid_of (plain_of pairs p) else fid_of 0).volatile) told.0
+  | inr told ↦ ap (λ (t : Bool). o == (if t then fid_of (plain_of_real pairs p) else fid_of 0).persistent && o == (if t then fid_of (plain_of_real pairs p) else fid_of 0).volatile) told.0
       ∙ not_zero o low ∙ sym (not_both o p v told.1)
 ]
 
@@ -56,24 +56,24 @@ found_as who fid fid' (o ∷ os) all =
     ap (λ (t : Bool). if t then Some o else open_of os who fid') all.0
     ∙ ap (λ (found : Option Open). if is_open_of who fid o then Some o else found) (found_as who fid fid' os all.1)
 
-each_test : (pairs : List (ℕ × ℕ)) (made : ℕ) (who : Who) (fid : Fid) → AreSame pairs made → (opens : List Open)
+each_test : (pairs : List Pair) (made : ℕ) (who : Who) (fid : Fid) → AreSame pairs made → (opens : List Open)
     → AllByRecursion (IsStanding made) opens
-    → AllByRecursion (λ o. is_open_of who (carried_fid pairs fid) o ≡ is_open_of who fid o) opens
+    → AllByRecursion (λ o. is_open_of who (fid_carried pairs fid) o ≡ is_open_of who fid o) opens
 each_test pairs made who fid same [] all = tt
 each_test pairs made who fid same (o ∷ os) all = (
   ap (λ (t : Bool). t && o.who.0 == who.0 && o.connected) (number_test pairs made o.number fid.persistent fid.volatile same all.0.0 all.0.1),
   each_test pairs made who fid same os all.1,
 )
 
-pub open_of_carried : (pairs : List (ℕ × ℕ)) (s : Share) (who : Who) (fid : Fid) → AreSame pairs s.opens_made → AreStanding s
-    → open_of s.opens who (carried_fid pairs fid) ≡ open_of s.opens who fid
+pub open_of_carried : (pairs : List Pair) (s : Share) (who : Who) (fid : Fid) → AreSame pairs s.opens_made → AreStanding s
+    → open_of s.opens who (fid_carried pairs fid) ≡ open_of s.opens who fid
 open_of_carried pairs s who fid same numbered =
-    found_as who fid (carried_fid pairs fid) s.opens (each_test pairs s.opens_made who fid same s.opens numbered.0)
+    found_as who fid (fid_carried pairs fid) s.opens (each_test pairs s.opens_made who fid same s.opens numbered.0)
 
 -- another client's request on the plain share
-pub act_same : (pairs : List (ℕ × ℕ)) (choice : Option Grant) (s : Share) (who : Who) (r : Req)
+pub act_same : (pairs : List Pair) (choice : Option Grant) (s : Share) (who : Who) (r : Req)
     → AreSame pairs s.opens_made → AreStanding s → is_built r ≡ true
-    → plain_step (bare s) who (map_fid (carried_fid pairs) r) ≡ bare_of (step_of choice s who r)
+    → plain_step (bare s) who (map_fid (fid_carried pairs) r) ≡ bare_of (step_of choice s who r)
 act_same pairs choice s who (req.Create path access share disposition options attributes lease durable) same numbered built =
     step_bare choice (Some (record { lease = 0; durable = false })) s who (req.Create path access share disposition options attributes lease durable) built
 act_same pairs choice s who (req.Close fid) same numbered built =

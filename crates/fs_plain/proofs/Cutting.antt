@@ -1,21 +1,15 @@
 -- The connection is lost: the opens of the client end on both shares.
-use Rattle.std.proofs.Common.{rules, ◌≡◌, ℕ, true, false, [], ◌∷◌, ◌++◌, refl, ap, sym, subst, ◌∙◌, None, Some, List, Option, Bool, ◌==◌, ◌&&◌, ◌||◌, not, if◌then◌else◌}
+use Rattle.std.proofs.Common.{rules, ◌≡◌, ℕ, true, false, [], ◌∷◌, refl, ap, sym, subst, ◌∙◌, Some, List, Option, Bool, ◌==◌, ◌&&◌, ◌||◌, not, if◌then◌else◌}
 use Rattle.std.specs.Prelude.{map, filter}
 use Rattle.std.specs.List.{AllByRecursion, list_any}
-use Rattle.smb_base.specs.declared.names.Mid.{Mid}
-use Rattle.share_spec.specs.declared.connection.Owed.{Owed}
 use Rattle.share_spec.specs.declared.opens.Open.{Open}
 use Rattle.share_spec.specs.declared.share.Share.{Share}
-use Rattle.share_spec.specs.Reply.{fid_of}
 use Rattle.share_spec.specs.Close.{closed, opens_but}
 use Rattle.share_spec.specs.Cut.{all_closed, ends_with, is_broken, disconnected, after_cut}
-use Rattle.smb_link.specs.declared.event.Event.TheVariants as event
 use Rattle.fs_plain.specs.World.{us}
-use Rattle.fs_plain.specs.Replay.{Run, Running, Replay, plain_of}
-use Rattle.fs_plain.specs.Differences.{replay_step, with_number, closed_if, all_plain_ended, ended_between}
-use Rattle.fs_plain.specs.View.{Item, View, same_flying, ran, reply_of_flying, rest_after, opened_after}
-use Rattle.fs_plain.specs.Tidy.{IsToBeClosed}
-use Rattle.fs_plain.specs.Related.{Related, bare, IsStanding, IsAnother, AreApart, AreStanding, AreSame, IsOther, AreDistinct, IsNamed}
+use Rattle.fs_plain.specs.Paired.{Pair, plain_of_real}
+use Rattle.fs_plain.specs.Divergence.{with_number, closed_if, all_ended_with, ended_between}
+use Rattle.fs_plain.specs.Alike.{bare, IsStanding, IsAnother, AreApart, AreStanding, AreSame}
 use Rattle.fs_plain.proofs.Every.{every-filter, every-more, every-both, all_kept}
 use Rattle.fs_plain.proofs.Steps.{apart_filter}
 
@@ -132,14 +126,14 @@ found_but n m (o ∷ os) apart = by (found_but n m os apart)
     by later = kept (o.number == m) refl later
 
 -- the same opens end on the plain share
-abbrev pub IsFound : List (ℕ × ℕ) → List Open → Open → Type 0
-IsFound pairs opens o = (plain_of pairs o.number ≡ o.number) × (with_number o.number opens ≡ Some o)
+abbrev pub IsFound : List Pair → List Open → Open → Type 0
+IsFound pairs opens o = (plain_of_real pairs o.number ≡ o.number) × (with_number o.number opens ≡ Some o)
 
-ended_bare : (pairs : List (ℕ × ℕ)) (es : List Open) (s : Share) → AllByRecursion (IsFound pairs s.opens) es → AreApart es
-    → all_plain_ended pairs es (bare s) ≡ bare (all_closed es s)
+ended_bare : (pairs : List Pair) (es : List Open) (s : Share) → AllByRecursion (IsFound pairs s.opens) es → AreApart es
+    → all_ended_with pairs es (bare s) ≡ bare (all_closed es s)
 ended_bare pairs [] s all apart = refl
 ended_bare pairs (e ∷ es) s all apart =
-    ap (λ (o : Option Open). all_plain_ended pairs es (closed_if o (bare s))) (ap (λ (n : ℕ). with_number n s.opens) all.0.0 ∙ all.0.1)
+    ap (λ (o : Option Open). all_ended_with pairs es (closed_if o (bare s))) (ap (λ (n : ℕ). with_number n s.opens) all.0.0 ∙ all.0.1)
     ∙ ended_bare pairs es (closed e s) (still es all.1 apart.0) apart.1
   where
     still : (qs : List Open) → AllByRecursion (IsFound pairs s.opens) qs → AllByRecursion (IsAnother e) qs → AllByRecursion (IsFound pairs (closed e s).opens) qs
@@ -149,10 +143,6 @@ ended_bare pairs (e ∷ es) s all apart =
 made_still : (es : List Open) (s : Share) → (all_closed es s).opens_made ≡ s.opens_made
 made_still [] s = refl
 made_still (e ∷ es) s = made_still es (closed e s)
-
-no_leases : (es : List Open) (s : Share) → s.leases ≡ [] → (all_closed es s).leases ≡ []
-no_leases [] s none = none
-no_leases (e ∷ es) s none = no_leases es (closed e s) (rw none refl)
 
 -- the opens that end, and those that stay
 abbrev pub ends : Share → Open → Bool
@@ -200,14 +190,14 @@ all_ends s all apart =
     twice false = refl
 
 -- the plain share and the real one are still alike
-pub cut_tree : (s : Share) (pairs : List (ℕ × ℕ)) → AllByRecursion (IsStanding s.opens_made) s.opens → AreApart s.opens → AreSame pairs s.opens_made
-    → all_plain_ended pairs (ended_between s.opens (after_cut s).opens) (bare s) ≡ bare (after_cut s)
+pub cut_tree : (s : Share) (pairs : List Pair) → AllByRecursion (IsStanding s.opens_made) s.opens → AreApart s.opens → AreSame pairs s.opens_made
+    → all_ended_with pairs (ended_between s.opens (after_cut s).opens) (bare s) ≡ bare (after_cut s)
 cut_tree s pairs all apart same =
-    ap (λ (l : List Open). all_plain_ended pairs l (bare s)) (all_ends s all apart)
+    ap (λ (l : List Open). all_ended_with pairs l (bare s)) (all_ends s all apart)
     ∙ ended_bare pairs (filter (ends s) s.opens) s
     (every-filter (IsFound pairs s.opens) (ends s) s.opens
-    (every-both (λ o. plain_of pairs o.number ≡ o.number) (λ o. with_number o.number s.opens ≡ Some o) s.opens
-    (every-more (IsStanding s.opens_made) (λ o. plain_of pairs o.number ≡ o.number) (λ o is. same.known o.number is.0 is.1) s.opens all)
+    (every-both (λ o. plain_of_real pairs o.number ≡ o.number) (λ o. with_number o.number s.opens ≡ Some o) s.opens
+    (every-more (IsStanding s.opens_made) (λ o. plain_of_real pairs o.number ≡ o.number) (λ o is. same.known o.number is.0 is.1) s.opens all)
     (found s.opens apart)))
     (apart_filter (ends s) s.opens apart)
     ∙ ap (λ (l : List Open). record (bare (all_closed (filter (ends s) s.opens) s)) { opens = l })
@@ -222,65 +212,3 @@ cut_standing s old = subst (λ (l : List Open). AllByRecursion (IsStanding (afte
   subst (λ (n : ℕ). AllByRecursion (IsStanding n) (filter (stays s) s.opens)) (sym (cut_made s)) (every-filter (IsStanding s.opens_made) (stays s) s.opens old.0),
   apart_filter (stays s) s.opens old.1,
 )
-
--- a call as far as the plain client came with it, with nothing in flight
-abbrev pub part_of : List Owed → Item → Item
-part_of coming i = record i {
-  rest = rest_after (reply_of_flying i.flying coming) i.rest;
-  opened = opened_after (reply_of_flying i.flying coming) i.opened;
-  fids = map fid_of (opened_after (reply_of_flying i.flying coming) i.opened);
-  flying = None;
-}
-
-abbrev pub parted : List Owed → View → View
-parted coming v = record v { items = map (part_of coming) v.items; flights = []; hand = []; held = []; announced = None; connected = false }
-
-ran_parted : (coming : List Owed) (items : List Item) → map (ran coming) items ≡ map (ran []) (map (part_of coming) items)
-ran_parted coming [] = refl
-ran_parted coming (i ∷ is) = ap (λ (l : List Running). ran coming i ∷ l) (ran_parted coming is)
-
-distinct_parted : (coming : List Owed) (items : List Item) → AreDistinct items → AreDistinct (map (part_of coming) items)
-distinct_parted coming [] distinct = record {}
-distinct_parted coming (i ∷ is) distinct = (others is distinct.0, distinct_parted coming is distinct.1)
-  where
-    others : (js : List Item) → AllByRecursion (IsOther i) js → AllByRecursion (IsOther (part_of coming i)) (map (part_of coming) js)
-    others [] all = tt
-    others (j ∷ js) all = ((all.0.0, refl), others js all.1)
-
-none_flying : (coming : List Owed) (m : Mid) (items : List Item) → AllByRecursion (λ i. same_flying (Some m) i.flying ≡ false) (map (part_of coming) items)
-none_flying coming m [] = tt
-none_flying coming m (i ∷ is) = (refl, none_flying coming m is)
-
-all_named : (coming : List Owed) (items : List Item) → AllByRecursion IsNamed (map (part_of coming) items)
-all_named coming [] = tt
-all_named coming (i ∷ is) = (refl, all_named coming is)
-
--- the connection is lost: the calls stay where the plain client is with them
-pub cut_related : (run : Run) (s : Share) (r : Replay) (v : View) (old : Related s r v)
-    → Related (after_cut s) (replay_step run s r event.Cut) (parted (old.paid ++ s.owed) v)
-cut_related run s r v old = record {
-  tree = ap (λ (p : Share). all_plain_ended r.pairs (ended_between s.opens (after_cut s).opens) p) old.tree ∙ cut_tree s r.pairs old.standing.0 old.standing.1 old.pairs;
-  leases = no_leases (filter (ends s) s.opens) s old.leases;
-  standing = cut_standing s old.standing;
-  pairs = subst (AreSame r.pairs) (sym (cut_made s)) old.pairs;
-  kept = old.kept;
-  connected = refl;
-  held = refl;
-  announced = refl;
-  begun = old.begun;
-  paid = [];
-  in_hand = record {};
-  sound = record {};
-  sent = refl;
-  running = old.running ∙ ran_parted (old.paid ++ s.owed) v.items;
-  owners = tt;
-  belongs = tt;
-  calls = distinct_parted (old.paid ++ s.owed) v.items old.calls;
-  named = all_named (old.paid ++ s.owed) v.items;
-  tidy = record {
-    closing = subst (AllByRecursion (IsToBeClosed r.running)) (sym (opens_after s old.standing.0 old.standing.1))
-        (every-filter (IsToBeClosed r.running) (stays s) s.opens old.tidy.closing);
-    calls = old.tidy.calls;
-  };
-  fresh = λ m low. record { owner = refl; flight = refl; flying = none_flying (old.paid ++ s.owed) (record { 0 = m }) v.items };
-}

@@ -1,7 +1,7 @@
 -- A story that an honest share tells, and in which the client answers as one without caches.
-use Rattle.std.proofs.Common.{◌≡◌, ℕ, true, false, [], ◌∷◌, ◌++◌, refl, None, Some, List}
+use Rattle.std.proofs.Common.{◌≡◌, ℕ, Bool, true, false, [], ◌∷◌, ◌++◌, ◌==◌, refl, None, Some, List}
+use Rattle.std.specs.List.{list_any}
 use Rattle.std.specs.Prelude.{codes, take, drop}
-use Rattle.std.proofs.lemmas.Bool.{false≢true}
 use Rattle.smb_base.specs.declared.names.Mid.{Mid}
 use Rattle.fs_types.specs.declared.names.Kind.TheVariants as kind
 use Rattle.fs_types.specs.declared.answer.Answer.TheVariants as answer
@@ -10,6 +10,9 @@ use Rattle.fs_types.specs.declared.options.Options.{Options}
 use Rattle.share_spec.specs.declared.request.Req.TheVariants as req
 use Rattle.share_spec.specs.Reply.{of_status, fid_of, opened_reply}
 use Rattle.share_spec.specs.Names.{components}
+use Rattle.share_spec.specs.State.{Making}
+use Rattle.share_spec.specs.declared.share.Share.{Share}
+use Rattle.share_spec.specs.declared.opens.Open.{Open}
 use Rattle.smb_link.specs.declared.event.Event.{Event}
 use Rattle.smb_link.specs.declared.event.Event.TheVariants as event
 use Rattle.smb_link.specs.declared.mark.Mark.TheVariants as mark
@@ -30,12 +33,12 @@ use Rattle.smb_info.specs.Attributes.{all_of}
 use Rattle.fs_plain.specs.Masked.{untold}
 use Rattle.fs_plain.specs.Requests.{wire_request}
 use Rattle.fs_plain.specs.Replies.{reply_in, is_interim_of}
-use Rattle.fs_plain.specs.Honest.{IsHonest}
-use Rattle.fs_plain.specs.Replay.{Run}
-use Rattle.fs_plain.specs.Answered.{odd}
-use Rattle.fs_plain.specs.Differences.{difference}
-use Rattle.fs_plain.specs.CleanEnd.{EndsClean}
-use Rattle.fs_plain.specs.Thrift.{IsThrifty}
+use Rattle.fs_plain.specs.Honest.{IsHonest, start}
+use Rattle.fs_plain.specs.Run.{Run}
+use Rattle.fs_plain.specs.Differences.{odd}
+use Rattle.fs_plain.specs.World.{share_after}
+use Rattle.fs_plain.specs.PlainSide.{PlainSide, plain_side}
+use Rattle.fs_plain.specs.Divergence.{divergence, side_at}
 use Rattle.fs_plain.proofs.Frames.{create_frame, interim_frame, opened_frame, both_frame, told_frame}
 
 abbrev pub mid : ℕ → Mid
@@ -93,16 +96,19 @@ nothing = record {}
 abbrev pub run : Run
 run = record { options = options; seed = []; status = 0 }
 
+abbrev pub made : Making
+made = record { room = 1000; fold = false }
+
 -- it is the plain client's
-no_difference : difference run 1000 false story ≡ None
+no_divergence : divergence run made story ≡ None
 unfolding components wire_request reply_in is_interim_of head_of head_at number_at first_of frames_in rest_in step_of parts_of read_of contexts_of set_of path.components path.after_part fault_of spelling untold create_request_of close_request_of query_info_request_of part_in create_reply_of close_reply_of buffer_reply_of error_reply_of all_of
-no_difference = refl
+no_divergence = refl
 
 -- with another answer it is not: the seventeenth event differs
 abbrev pub with_answer : ℕ → List Event
 with_answer links = take 16 story ++ event.Marked (mark.Answer 1 (answer.Stat (record { kind = kind.Dir; size = 0; mode = 493; links = links; number = 1 }))) ∷ []
 
-a_wrong_answer : difference run 1000 false (with_answer 2)
+a_wrong_answer : divergence run made (with_answer 2)
     ≡ Some (
       17,
       record {
@@ -114,36 +120,42 @@ unfolding components wire_request reply_in is_interim_of head_of head_at number_
 a_wrong_answer = refl
 
 -- an answer before the second request of the three is taken
-an_early_answer : difference run 1000 false (take 13 story ++ event.Marked (mark.Answer 1 answer.Done) ∷ []) ≡ Some (14, odd)
+an_early_answer : divergence run made (take 13 story ++ event.Marked (mark.Answer 1 answer.Done) ∷ []) ≡ Some (14, odd)
 unfolding components wire_request reply_in is_interim_of head_of head_at number_at first_of frames_in rest_in step_of parts_of read_of contexts_of set_of path.components path.after_part fault_of spelling untold create_request_of close_request_of query_info_request_of part_in create_reply_of close_reply_of buffer_reply_of error_reply_of all_of
 an_early_answer = refl
 
 -- a second answer
-a_second_answer : difference run 1000 false (take 17 story ++ event.Marked (mark.Answer 1 answer.Done) ∷ []) ≡ Some (18, odd)
+a_second_answer : divergence run made (take 17 story ++ event.Marked (mark.Answer 1 answer.Done) ∷ []) ≡ Some (18, odd)
 unfolding components wire_request reply_in is_interim_of head_of head_at number_at first_of frames_in rest_in step_of parts_of read_of contexts_of set_of path.components path.after_part fault_of spelling untold create_request_of close_request_of query_info_request_of part_in create_reply_of close_reply_of buffer_reply_of error_reply_of all_of
 a_second_answer = refl
 
 -- a frame that does not hold the two requests that the mark before it names
-a_short_frame : difference run 1000 false (take 12 story ++ event.Sent create_frame ∷ []) ≡ Some (13, odd)
+a_short_frame : divergence run made (take 12 story ++ event.Sent create_frame ∷ []) ≡ Some (13, odd)
 unfolding components wire_request reply_in is_interim_of head_of head_at number_at first_of frames_in rest_in step_of parts_of read_of contexts_of set_of path.components path.after_part fault_of spelling untold create_request_of close_request_of query_info_request_of part_in create_reply_of close_reply_of buffer_reply_of error_reply_of all_of
 a_short_frame = refl
 
--- it leaves the share as the plain client does, and nobody waits for it
-it_ends_clean : EndsClean run 1000 false story
-unfolding components wire_request reply_in is_interim_of head_of head_at number_at first_of frames_in rest_in step_of parts_of read_of contexts_of set_of path.components path.after_part fault_of spelling untold create_request_of close_request_of query_info_request_of part_in create_reply_of close_reply_of buffer_reply_of error_reply_of all_of
-it_ends_clean = λ left. record { nodes = refl; entries = refl; opens = refl }
+-- the real share and the plain side once these events happened
+abbrev pub share_at_end : List Event → Share
+share_at_end events = share_after (start 1000 false events) events
 
--- as long as its CLOSE is not taken it does not
-it_is_not_clean_before : EndsClean run 1000 false (take 13 story) → ⊥
-unfolding components wire_request reply_in is_interim_of head_of head_at number_at first_of frames_in rest_in step_of parts_of read_of contexts_of set_of path.components path.after_part fault_of spelling untold create_request_of close_request_of query_info_request_of part_in create_reply_of close_reply_of buffer_reply_of error_reply_of all_of
-it_is_not_clean_before clean = false≢true (clean refl).opens
+abbrev pub side_at_end : List Event → PlainSide
+side_at_end events = side_at run (start 1000 false events) (plain_side made events) events
 
--- its first request is one frame, since one id may be used there
-it_is_thrifty : IsThrifty run 1000 false (take 6 story)
-unfolding components wire_request reply_in is_interim_of head_of head_at number_at first_of frames_in rest_in step_of parts_of read_of contexts_of set_of path.components path.after_part fault_of spelling untold create_request_of close_request_of query_info_request_of part_in create_reply_of close_reply_of buffer_reply_of error_reply_of all_of
-it_is_thrifty = (refl, (refl, (refl, (refl, (refl, (refl, nothing))))))
+abbrev pub has_open_of_ours : Share → Bool
+has_open_of_ours s = list_any (λ (o : Open). o.who.0 == 0) s.opens
 
--- and an honest share tells it
+-- it leaves the share as the plain client does, and no open of it stands
+it_is_left : ((share_at_end story).nodes ≡ (side_at_end story).plain.nodes) × ((share_at_end story).entries ≡ (side_at_end story).plain.entries)
+    × (has_open_of_ours (share_at_end story) ≡ false)
+unfolding components wire_request reply_in is_interim_of head_of head_at number_at first_of frames_in rest_in step_of parts_of read_of contexts_of set_of path.components path.after_part fault_of spelling untold create_request_of close_request_of query_info_request_of part_in create_reply_of close_reply_of buffer_reply_of error_reply_of all_of
+it_is_left = (refl, refl, refl)
+
+-- as long as its CLOSE is not taken an open stands
+it_is_not_left_before : has_open_of_ours (share_at_end (take 13 story)) ≡ true
+unfolding components wire_request reply_in is_interim_of head_of head_at number_at first_of frames_in rest_in step_of parts_of read_of contexts_of set_of path.components path.after_part fault_of spelling untold create_request_of close_request_of query_info_request_of part_in create_reply_of close_reply_of buffer_reply_of error_reply_of all_of
+it_is_not_left_before = refl
+
+-- an honest share tells it
 it_is_honest : IsHonest 1000 false story
 unfolding components wire_request reply_in is_interim_of head_of head_at number_at first_of frames_in rest_in step_of parts_of read_of contexts_of set_of path.components path.after_part fault_of spelling untold create_request_of close_request_of query_info_request_of part_in create_reply_of close_reply_of buffer_reply_of error_reply_of all_of
 it_is_honest = (

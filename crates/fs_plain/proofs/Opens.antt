@@ -25,8 +25,8 @@ use Rattle.share_spec.specs.Close.{is_open_of, open_of, close_open}
 use Rattle.share_spec.specs.Query.{query_open}
 use Rattle.share_spec.specs.Step.{step_of}
 use Rattle.fs_plain.specs.World.{us}
-use Rattle.fs_plain.specs.Replay.{opened_number}
-use Rattle.fs_plain.specs.Related.{IsStanding}
+use Rattle.fs_plain.specs.Paired.{opened_number}
+use Rattle.fs_plain.specs.Alike.{IsStanding}
 use Rattle.fs_plain.proofs.Every.{every-snoc, every-filter, every-more, all_kept}
 use Rattle.fs_plain.proofs.Steps.{no_zero}
 

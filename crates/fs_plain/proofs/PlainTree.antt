@@ -26,7 +26,7 @@ use Rattle.share_spec.specs.State.{emptied}
 use Rattle.share_spec.specs.Close.{open_of, close_open}
 use Rattle.share_spec.specs.Query.{query_open}
 use Rattle.share_spec.specs.Step.{step_of}
-use Rattle.fs_plain.specs.Related.{bare}
+use Rattle.fs_plain.specs.Alike.{bare}
 
 -- what is done, without leases and a connection
 abbrev pub bare_of : Rep × Share → Rep × Share
@@ -48,9 +48,6 @@ place_bare s names = walk_bare s root names
 unless_bare : (refusal : Option ℕ) (s : Share) (done : Rep × Share) → unless refusal (bare s) (bare_of done) ≡ bare_of (unless refusal s done)
 unless_bare None s done = refl
 unless_bare (Some status) s done = refl
-
-made_bare : (s : Share) (who : Who) (w : Wanted) (d : ℕ) (name : List ℕ) → made (bare s) who w no_granting d name ≡ bare_of (made s who w no_granting d name)
-made_bare s who w d name = refl
 
 -- the share, its node emptied where that is asked
 abbrev perhaps_emptied : Share → ℕ → Bool → Share

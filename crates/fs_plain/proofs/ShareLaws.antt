@@ -27,9 +27,7 @@ use Rattle.share_spec.specs.Close.{open_of, close_open}
 use Rattle.share_spec.specs.Query.{query_open}
 use Rattle.share_spec.specs.Step.{step_of}
 use Rattle.fs_plain.specs.World.{is_creating}
-use Rattle.fs_plain.specs.Replay.{opened_number}
-use Rattle.fs_plain.specs.View.{NamesIn}
-use Rattle.fs_plain.specs.Paired.{open_given}
+use Rattle.fs_plain.specs.Paired.{opened_number, NamesIn, open_given}
 use Rattle.fs_plain.specs.Alike.{HasNoLeaseOfOurs}
 use Rattle.fs_plain.proofs.Opens.{Creates, create_creates}
 use Rattle.fs_plain.proofs.Steps.{step_names}

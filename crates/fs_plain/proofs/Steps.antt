@@ -29,9 +29,8 @@ use Rattle.share_spec.specs.declared.connection.Owed.{Owed}
 use Rattle.share_spec.specs.Close.{open_of, close_open, closed, kept_leases}
 use Rattle.share_spec.specs.Query.{query_open}
 use Rattle.share_spec.specs.Step.{step_of}
-use Rattle.fs_plain.specs.Replay.{opened_number}
-use Rattle.fs_plain.specs.View.{Names}
-use Rattle.fs_plain.specs.Related.{IsStanding, IsAnother, AreApart, AreStanding}
+use Rattle.fs_plain.specs.Paired.{opened_number, Names}
+use Rattle.fs_plain.specs.Alike.{IsStanding, IsAnother, AreApart, AreStanding}
 use Rattle.fs_plain.proofs.Every.{every-snoc, every-filter, every-more}
 
 -- what was done gave no open and made none, or gave the one that it made, which has the next number

@@ -1,5 +1,5 @@
 -- The plain side of a story, event by event, and the first place where the story diverges from it.
-use Rattle.std.specs.Prelude.{ℕ, ◌+◌, ◌-◌, ◌==◌, Bool, true, false, not, ◌&&◌, ◌||◌, nat_lt, nat_le, if◌then◌else◌, List, [], ◌∷◌, ◌++◌, length, map, Option, Some, None, unwrap_or, option_map, Result}
+use Rattle.std.specs.Prelude.{ℕ, ◌+◌, ◌-◌, ◌==◌, Bool, true, false, not, ◌&&◌, ◌||◌, nat_lt, nat_le, if◌then◌else◌, List, [], ◌∷◌, ◌++◌, length, map, Option, Some, None, Result, filter}
 use Rattle.std.specs.List.{list_any, list_all}
 use Rattle.smb_base.specs.declared.names.Fid.{Fid}
 use Rattle.smb_base.specs.declared.names.Mid.{Mid}
@@ -12,6 +12,8 @@ use Rattle.share_spec.specs.declared.share.Share.{Share}
 use Rattle.share_spec.specs.State.{Making}
 use Rattle.share_spec.specs.Reply.{fid_of, map_fid}
 use Rattle.share_spec.specs.PlainShare.{plain_step}
+use Rattle.share_spec.specs.Close.{closed}
+use Rattle.share_spec.specs.declared.request.Req.TheVariants as req
 use Rattle.smb_link.specs.declared.event.Event.{Event}
 use Rattle.smb_link.specs.declared.event.Event.TheVariants as event
 use Rattle.smb_link.specs.declared.mark.Mark.{Mark}
@@ -20,10 +22,10 @@ use Rattle.smb_link.specs.Calls.{is_there, program_of}
 use Rattle.fs_plain.specs.World.{messages_got, happens}
 use Rattle.fs_plain.specs.Honest.{start}
 use Rattle.fs_plain.specs.Same.{same_reply, answer_of_reply}
-use Rattle.fs_plain.specs.Replay.{Run}
-use Rattle.fs_plain.specs.Answered.{Difference, odd_unless}
-use Rattle.fs_plain.specs.Differences.{mids_in, with_number, closed_if, ended_between, is_passed_over, first_of_two}
-use Rattle.fs_plain.specs.Paired.{Pair, pair_of_real, pair_given}
+use Rattle.fs_plain.specs.Run.{Run}
+use Rattle.fs_plain.specs.Differences.{Difference, odd_unless, first_of_two}
+use Rattle.fs_plain.specs.Owners.{mids_in}
+use Rattle.fs_plain.specs.Paired.{Pair, pair_given, plain_of_real}
 use Rattle.fs_plain.specs.Told.{Announcement, ids_of, was_begun, told_after}
 use Rattle.fs_plain.specs.PlainSide.{PlainCall, PlainSide, is_deed, plain_side, file_named}
 use Rattle.fs_plain.specs.PlainTaken.{side_after_took, is_right_took}
@@ -71,9 +73,18 @@ judged_mark run s p mark.End = None
 abbrev pub holds_announced : List Mid → List Announcement → Bool
 holds_announced mids announced = list_all (λ (a : Announcement). nat_le a.count (length (ids_of mids a))) announced
 
--- the number of the plain open that stands for a real one; 0, which no open has, where none does
-abbrev pub plain_of_real : List Pair → ℕ → ℕ
-plain_of_real pairs real = unwrap_or (option_map (λ (pair : Pair). pair.plain) (pair_of_real real pairs)) 0
+-- the open with a number, if it stands, and the share once it was closed
+abbrev pub with_number : ℕ → List Open → Option Open
+with_number n [] = None
+with_number n (o ∷ os) = if o.number == n then Some o else with_number n os
+
+abbrev pub closed_if : Option Open → Share → Share
+closed_if None s = s
+closed_if (Some o) s = closed o s
+
+-- the opens that stand in the first list and no more in the second
+abbrev pub ended_between : List Open → List Open → List Open
+ended_between before after = filter (λ o. not (list_any (λ q. q.number == o.number) after)) before
 
 -- an event that ends opens of the real share ends those that stand for them, each as by a Close
 abbrev pub all_ended_with : List Pair → List Open → Share → Share
@@ -83,6 +94,12 @@ all_ended_with pairs (o ∷ os) plain =
 
 abbrev pub side_after_ends : Share → Event → PlainSide → PlainSide
 side_after_ends s e p = record p { plain = all_ended_with p.pairs (ended_between s.opens (happens s e).opens) p.plain }
+
+-- what speaks of leases and lost connections alone is not done on the plain share
+abbrev pub is_passed_over : Req → Bool
+is_passed_over (req.Ack key state) = true
+is_passed_over (req.Reclaim fid key) = true
+is_passed_over r = false
 
 -- another client's file id, carried over to the plain share
 abbrev pub fid_carried : List Pair → Fid → Fid

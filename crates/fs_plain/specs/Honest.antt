@@ -112,3 +112,7 @@ start room fold story = record (fresh_share room fold) { grants = ahead [] story
 -- a story is one that an honest share with this room and folding tells
 abbrev pub IsHonest : ℕ → Bool → List Event → Type 0
 IsHonest room fold story = HonestFrom (start room fold story) story
+
+-- the share at the start of a story, whatever it is going to choose
+abbrev pub at_start : ℕ → Bool → List (Option Grant) → Share
+at_start room fold grants = record (fresh_share room fold) { grants = grants }

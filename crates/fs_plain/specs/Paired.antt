@@ -1,11 +1,12 @@
 -- Which open of the plain share stands for which of the real one, and which are kept open on the real share alone.
-use Rattle.std.specs.Prelude.{◌≡◌, ℕ, ◌==◌, Bool, false, not, ◌&&◌, if◌then◌else◌, List, [], ◌∷◌, filter, Option, Some, None}
-use Rattle.std.specs.List.{list_any, AllByRecursion}
+use Rattle.std.specs.Prelude.{ℕ, ◌==◌, Bool, not, ◌&&◌, if◌then◌else◌, List, [], ◌∷◌, filter, Option, Some, None, unwrap_or, option_map, ◌≡◌, false}
+use Rattle.std.specs.List.{list_any}
 use Rattle.std.specs.Str.{bytes_eq}
 use Rattle.share_spec.specs.declared.opens.Open.{Open}
 use Rattle.share_spec.specs.declared.request.RepBody.{RepBody}
 use Rattle.share_spec.specs.declared.request.RepBody.TheVariants as body
 use Rattle.share_spec.specs.declared.request.Rep.{Rep}
+use Rattle.share_spec.specs.Reply.{fid_of}
 
 -- an open of the plain share, the one of the real share that it stands for, and the path on the share under which it was opened
 pub record Pair : Type 0 where
@@ -28,10 +29,28 @@ abbrev pub pair_of_plain : ℕ → List Pair → Option Pair
 pair_of_plain plain [] = None
 pair_of_plain plain (p ∷ pairs) = if p.plain == plain then Some p else pair_of_plain plain pairs
 
+-- the number of the plain open that stands for a real one; 0, which no open has, where none does
+abbrev pub plain_of_real : List Pair → ℕ → ℕ
+plain_of_real pairs real = unwrap_or (option_map (λ (pair : Pair). pair.plain) (pair_of_real real pairs)) 0
+
 -- the open that a reply gave
 abbrev pub open_given : RepBody → Option ℕ
 open_given (body.Opened fid action size attributes lease durable) = Some fid.persistent
 open_given other = None
+
+-- the number of the open that a reply gave, or 0
+abbrev pub opened_number : RepBody → ℕ
+opened_number (body.Opened fid action size attributes lease durable) = fid.persistent
+opened_number other = 0
+
+-- the body of a reply that gives an open names it by its number in both halves
+abbrev pub NamesIn : RepBody → Type 0
+NamesIn (body.Opened fid action size attributes lease durable) = (fid ≡ fid_of fid.persistent) × ((fid.persistent == 0) ≡ false)
+NamesIn other = Unit {0}
+
+-- a reply names the open that it gives, if it gives one
+abbrev pub Names : Rep → Type 0
+Names reply = NamesIn reply.body
 
 -- the opens that two replies gave, as a pair, where both gave one
 abbrev pub paired : List ℕ → Option ℕ → Option ℕ → List Pair
@@ -42,15 +61,7 @@ paired path (Some plain) (Some real) = record { plain = plain; real = real; path
 abbrev pub pair_given : List ℕ → Rep → Rep → List Pair
 pair_given path plain real = paired path (open_given plain.body) (open_given real.body)
 
--- two pairs have no open in common
-abbrev pub IsApart : Pair → Pair → Type 0
-IsApart p q = ((p.plain == q.plain) ≡ false) × ((p.real == q.real) ≡ false)
-
--- each open is in one pair at most. A kept open that a later call takes over is paired again: its older pair is taken out first.
-abbrev pub AreInjective : List Pair → Type 0
-AreInjective [] = Unit {0}
-AreInjective (p ∷ pairs) = AllByRecursion (IsApart p) pairs × AreInjective pairs
-
+-- the pairs without that of a real open
 abbrev pub unpaired : ℕ → List Pair → List Pair
 unpaired real pairs = filter (λ p. not (p.real == real)) pairs
 

@@ -1,16 +1,18 @@
 -- An answer of a call of the plain side: what is left of its program is done on the plain share, and the answer is compared.
-use Rattle.std.specs.Prelude.{ℕ, ◌==◌, Bool, true, false, not, ◌&&◌, ◌||◌, if◌then◌else◌, List, [], ◌++◌, Option, Some, None}
+use Rattle.std.specs.Prelude.{ℕ, ◌==◌, Bool, true, false, not, ◌&&◌, ◌||◌, if◌then◌else◌, List, ◌++◌, Option, Some, None, []}
 use Rattle.fs_types.specs.declared.answer.Answer.{Answer}
 use Rattle.fs_types.specs.declared.call.Call.{Call}
 use Rattle.fs_types.specs.declared.call.Call.TheVariants as call
+use Rattle.fs_types.specs.declared.answer.Answer.TheVariants as answer
 use Rattle.share_spec.specs.declared.request.Rep.{Rep}
 use Rattle.share_spec.specs.declared.share.Share.{Share}
 use Rattle.share_spec.specs.PlainShare.{shown}
 use Rattle.smb_link.specs.Program.{Open as Opening, Query, Close, File, Program, Known, Ask, Look, Say}
-use Rattle.fs_plain.specs.Replay.{Run}
-use Rattle.fs_plain.specs.Answered.{Difference, odd, is_number, ended_by, compared}
+use Rattle.fs_plain.specs.Run.{Run, ended_by}
+use Rattle.fs_plain.specs.Differences.{Difference, odd}
 use Rattle.fs_plain.specs.Paired.{Pair, KeptOpen, pair_of_plain, kept_of, paired, open_given, reusable, kept_but, unpaired}
 use Rattle.fs_plain.specs.PlainSide.{PlainCall, PlainSide, call_with, calls_but, wish_done_on, open_of_file, with_given}
+use Rattle.fs_plain.specs.Same.{same_answer}
 
 -- a CLOSE that is left is done on the plain share, and the real open that it stood for is kept
 abbrev pub kept_open : Option ℕ → List Pair → ℕ → List KeptOpen
@@ -57,12 +59,22 @@ finished_on s known c (Ask (Close file) rest) p =
 finished_on s known c (Look rest) p = finished_on s known c (rest known) p
 finished_on s known c (Say a) p = (Some a, p)
 
+-- the answer is this error number and no status
+abbrev pub is_number : ℕ → Answer → Bool
+is_number n (answer.Err number None) = number.0 == n
+is_number n a = false
+
 -- an answer that is not compared: ENOMEM of a call that sent nothing; and EPROTO or EHOSTDOWN where it ends the run, which ended by what
 -- the server sent or by lost connections: nothing of the client but answers follows
 abbrev pub is_passed_by : Run → PlainSide → PlainCall → Answer → Bool
 is_passed_by run p c a =
     (not c.announced && is_number 12 a)
     || (p.to_do == 0 && ((ended_by 5 run.status && is_number 71 a) || (ended_by 6 run.status && is_number 112 a)))
+
+-- the answer is the program's
+abbrev pub compared : Option Answer → Answer → Option Difference
+compared None a = Some odd
+compared (Some expected) a = if same_answer expected a then None else Some (record { expected = expected; found = a })
 
 abbrev pub judged_answer_of : Run → Share → PlainSide → Option PlainCall → Answer → Option Difference
 judged_answer_of run s p None a = Some odd

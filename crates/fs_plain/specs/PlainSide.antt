@@ -1,6 +1,6 @@
 -- A client without caches at a share of its own, which does what the story's client was asked to do. Beside what it keeps stands what the
--- client's own events tell. The core's proofs still go by Replay; they are to go by this.
-use Rattle.std.specs.Prelude.{ℕ, zero, suc, unwrap_or, ◌==◌, Bool, false, not, if◌then◌else◌, List, [], ◌∷◌, ◌++◌, length, filter, Option, Some, None}
+-- client's own events tell.
+use Rattle.std.specs.Prelude.{ℕ, zero, suc, unwrap_or, ◌==◌, Bool, false, not, if◌then◌else◌, List, [], ◌∷◌, ◌++◌, length, filter, Option, Some, None, ◌+◌}
 use Rattle.smb_base.specs.declared.names.Fid.{Fid}
 use Rattle.fs_types.specs.declared.call.Call.{Call}
 use Rattle.fs_types.specs.declared.call.Call.TheVariants as call
@@ -16,8 +16,7 @@ use Rattle.smb_link.specs.Locals.{Locals}
 use Rattle.smb_link.specs.Program.{File, Own, Named, Wish, Open as Opening, Query, Close, Program}
 use Rattle.smb_link.specs.Story.{is_of_share}
 use Rattle.fs_plain.specs.World.{us}
-use Rattle.fs_plain.specs.Replay.{begins_in}
-use Rattle.fs_plain.specs.Taken.{wish_of}
+use Rattle.fs_plain.specs.Wishes.{wish_of}
 use Rattle.fs_plain.specs.Paired.{Pair, KeptOpen}
 use Rattle.fs_plain.specs.Told.{Told, nothing_told}
 
@@ -53,6 +52,12 @@ is_deed e = not (is_of_share e)
 -- the number of those
 abbrev pub deeds_in : List Event → ℕ
 deeds_in events = length (filter is_deed events)
+
+-- how many calls begin in these events
+abbrev pub begins_in : List Event → ℕ
+begins_in [] = 0
+begins_in (event.Marked (mark.Begin number lane call) ∷ events) = 1 + begins_in events
+begins_in (e ∷ events) = begins_in events
 
 -- before the first event
 abbrev pub plain_side : Making → List Event → PlainSide

@@ -16,8 +16,8 @@ use Rattle.smb_link.specs.Program.{Wish, Program, Known, Ask, Look, Say, settled
 use Rattle.fs_plain.specs.Masked.{Untold, untold, told_of}
 use Rattle.fs_plain.specs.Requests.{WireRequest, wire_request}
 use Rattle.fs_plain.specs.World.{us, resolved, refused_before, done_of, choice_now}
-use Rattle.fs_plain.specs.Replay.{Owner, owner_of}
-use Rattle.fs_plain.specs.Taken.{is_next}
+use Rattle.fs_plain.specs.Owners.{Owner, owner_of}
+use Rattle.fs_plain.specs.Wishes.{is_next}
 use Rattle.fs_plain.specs.Paired.{Pair, pair_of_real, pair_given, open_given}
 use Rattle.fs_plain.specs.PlainSide.{PlainCall, PlainSide, call_with, with_call, wish_done_on, path_opened, with_given}
 

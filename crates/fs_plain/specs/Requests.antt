@@ -1,5 +1,5 @@
 -- What a message that the client sent asks for.
-use Rattle.std.specs.Prelude.{◌≡◌, ℕ, ◌==◌, Bool, false, ◌&&◌, ◌||◌, if◌then◌else◌, List, Option, Some, None, is_some, is_ok, bit_and, Result, Ok, Err}
+use Rattle.std.specs.Prelude.{ℕ, ◌==◌, Bool, false, ◌&&◌, ◌||◌, if◌then◌else◌, List, Option, Some, None, is_some, is_ok, bit_and, Result, Ok, Err}
 use Rattle.smb_base.specs.declared.names.Key.{Key}
 use Rattle.smb_head.specs.declared.command.TheConstants.{NEGOTIATE, SESSION_SETUP, LOGOFF, TREE_CONNECT, TREE_DISCONNECT, CREATE, CLOSE, ECHO, QUERY_INFO}
 use Rattle.smb_head.specs.declared.head.Head.{Head}
@@ -23,7 +23,6 @@ use Rattle.share_spec.specs.declared.request.Req.TheVariants as req
 use Rattle.share_spec.specs.State.{has}
 use Rattle.share_spec.specs.Built.{is_built}
 use Rattle.fs_plain.specs.Wire.{units_in}
-use Rattle.fs_plain.specs.Masked.{Untold, untold}
 
 -- what is asked: something of the connection itself, as a mount, an ECHO or a leave; or a request to the share, with whether it is
 -- related to the CREATE before it in its frame (MS-SMB2 3.3.5.2.7.2)
@@ -93,7 +92,3 @@ asked_with (Ok head) message =
 -- what a message asks for, if it is a request that the share takes
 unfoldable pub wire_request : List ℕ → Option WireRequest
 wire_request message = asked_with (head_of message) message
-
--- a message asks the share for this, related to no other, and its reply leaves nothing out
-abbrev pub Asks : List ℕ → Req → Type 0
-Asks message request = (wire_request message ≡ Some (WireRequest.Share false request)) × (untold message ≡ Untold.Nothing)

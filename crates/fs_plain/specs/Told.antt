@@ -1,4 +1,4 @@
--- What the client's own events tell, for the plain replay and for the client's own view alike. Nothing here looks at a share.
+-- What the client's own events tell, for the plain side and for the client's own view alike. Nothing here looks at a share.
 use Rattle.std.specs.Prelude.{ℕ, ◌==◌, Bool, true, false, not, if◌then◌else◌, List, [], ◌∷◌, ◌++◌, take, map, filter, Result}
 use Rattle.std.specs.List.{list_any}
 use Rattle.smb_base.specs.declared.names.Mid.{Mid}
@@ -11,8 +11,8 @@ use Rattle.smb_link.specs.declared.mark.Mark.{Mark}
 use Rattle.smb_link.specs.declared.mark.Mark.TheVariants as mark
 use Rattle.smb_link.specs.Locals.{Locals, begun, answered}
 use Rattle.smb_link.specs.Program.{Known}
-use Rattle.fs_plain.specs.Replay.{Owner, facts_after, nothing_known}
-use Rattle.fs_plain.specs.Differences.{mids_in, from}
+use Rattle.fs_plain.specs.Owners.{Owner, mids_in, from}
+use Rattle.fs_plain.specs.Facts.{facts_after, nothing_known}
 
 -- a mark that speaks of the next frame: the call, the id of its first request there, how many it has there, and what the client knew at
 -- the mark

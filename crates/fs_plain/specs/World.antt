@@ -230,3 +230,8 @@ happens s (event.Pend mid) = after_pend mid s
 happens s (event.Act who r reply) = (act_of who r reply s).1
 happens s (event.Break key state) = after_break key state s
 happens s (event.Dropped key) = after_drop key s
+
+-- the real share after these events
+abbrev pub share_after : Share → List Event → Share
+share_after s [] = s
+share_after s (e ∷ events) = share_after (happens s e) events

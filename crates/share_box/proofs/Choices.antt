@@ -51,8 +51,7 @@ use Rattle.fs_plain.specs.Requests.{WireRequest, wire_request}
 use Rattle.fs_plain.specs.Replies.{Pays, command_of, answers, reply_of, reply_by_status, reply_with, reply_in, opened_in, interim_with, is_interim_of, is_aside_by_status, aside_with, is_aside_reply, notice_with, IsNotice, is_error, IsNoticeBody, opened_with}
 use Rattle.fs_plain.specs.World.{us, grant_in, requests_in, messages_in, messages_got, resolved, refused_before, unless_refused_before, choice_now, after_sent, after_done, after_taking, after_took_of, after_pend_of, notices, breakable, happens}
 use Rattle.fs_plain.specs.Ahead.{still_to_come, is_final, choice_of, is_opened, choice_among, ahead}
-use Rattle.fs_plain.specs.Honest.{ArePaid, HonestFrom, IsHonest}
-use Rattle.fs_plain.specs.Moves.{at_start}
+use Rattle.fs_plain.specs.Honest.{ArePaid, HonestFrom, IsHonest, at_start}
 use Rattle.fs_plain.proofs.Steps.{Connection, connection, step_connection}
 use Rattle.share_box.specs.Truth.{IsBare, AreBare, IsAlwaysHonest}
 use Rattle.share_box.proofs.SameShare.{step_grants}

@@ -25,7 +25,7 @@ use Rattle.smb_link.specs.declared.event.Event.TheVariants as event
 use Rattle.fs_plain.specs.Requests.{WireRequest, wire_request}
 use Rattle.fs_plain.specs.World.{us, grant_in, waiting, messages_of, first_mid, requests_among, requests_in, after_sent, is_first_of_frame, is_creating, refusal_before, resolved, refused_before, unless_refused_before, came_to, after_create, choices_left, choice_now, after_done, after_aside, after_taking, after_took_of, act_of, after_got, happens, after_pend_of}
 use Rattle.fs_plain.specs.Honest.{MayBeDone, MayBeTakenAs, MayTake, MayAct, MayGet, MayHappen, MayPend}
-use Rattle.fs_plain.specs.Related.{bare}
+use Rattle.fs_plain.specs.Alike.{bare}
 use Rattle.fs_plain.proofs.PlainTree.{bare_of}
 use Rattle.fs_plain.proofs.Steps.{Connection, step_connection, step_leases}
 use Rattle.fs_plain.proofs.Every.{every-filter}

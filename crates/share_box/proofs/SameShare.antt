@@ -29,7 +29,7 @@ use Rattle.share_spec.specs.Breaks.{is_refused_early, needs_in, needs_at, needs_
 use Rattle.share_spec.specs.Grants.{is_allowed}
 use Rattle.share_spec.specs.Cut.{all_closed, ends_with, disconnected, after_cut}
 use Rattle.fs_plain.specs.World.{grant_in}
-use Rattle.fs_plain.specs.Related.{bare}
+use Rattle.fs_plain.specs.Alike.{bare}
 use Rattle.fs_plain.proofs.PlainTree.{bare_of, step_bare}
 use Rattle.share_box.specs.Truth.{IsBare}
 

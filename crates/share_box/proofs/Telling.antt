@@ -12,10 +12,8 @@ use Rattle.share_spec.specs.Step.{step_of}
 use Rattle.smb_link.specs.declared.event.Event.{Event}
 use Rattle.smb_link.specs.declared.event.Event.TheVariants as event
 use Rattle.smb_link.specs.declared.mark.Mark.{Mark}
-use Rattle.fs_plain.specs.World.{happens}
-use Rattle.fs_plain.specs.Honest.{MayHappen, HonestFrom, IsHonest}
-use Rattle.fs_plain.specs.CleanEnd.{share_after}
-use Rattle.fs_plain.specs.Moves.{at_start}
+use Rattle.fs_plain.specs.World.{happens, share_after}
+use Rattle.fs_plain.specs.Honest.{MayHappen, HonestFrom, IsHonest, at_start}
 use Rattle.share_box.specs.declared.schedule.Turn.{Turn}
 use Rattle.share_box.specs.declared.state.State.{State}
 use Rattle.share_box.specs.Serving.{plan_of, is_free}

@@ -10,10 +10,9 @@ use Rattle.share_spec.specs.declared.share.Share.{Share}
 use Rattle.smb_link.specs.declared.event.Event.{Event}
 use Rattle.smb_link.specs.declared.event.Event.TheVariants as event
 use Rattle.fs_plain.specs.Requests.{wire_request}
-use Rattle.fs_plain.specs.Honest.{HonestFrom}
-use Rattle.fs_plain.specs.CleanEnd.{share_after}
-use Rattle.fs_plain.specs.Related.{bare}
-use Rattle.fs_plain.specs.Moves.{at_start}
+use Rattle.fs_plain.specs.Honest.{HonestFrom, at_start}
+use Rattle.fs_plain.specs.World.{share_after}
+use Rattle.fs_plain.specs.Alike.{bare}
 use Rattle.share_box.specs.declared.state.State.{State}
 use Rattle.share_box.specs.Paid.{IsPayment, IsProper}
 

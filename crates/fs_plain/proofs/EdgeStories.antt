@@ -15,7 +15,6 @@ use Rattle.share_spec.specs.declared.request.RepBody.TheVariants as body
 use Rattle.share_spec.specs.declared.connection.Owed.TheVariants as owed
 use Rattle.share_spec.specs.Reply.{fid_of}
 use Rattle.share_spec.specs.declared.share.Share.{Share}
-use Rattle.share_spec.specs.State.{Making}
 use Rattle.share_spec.specs.Names.{components}
 use Rattle.smb_link.specs.declared.event.Event.{Event}
 use Rattle.smb_link.specs.declared.event.Event.TheVariants as event
@@ -37,22 +36,14 @@ use Rattle.smb_info.specs.Attributes.{all_of, standard_of}
 use Rattle.fs_plain.specs.Requests.{wire_request, asked_lease, wanted_lease}
 use Rattle.fs_plain.specs.Replies.{reply_in, is_interim_of, Pays}
 use Rattle.fs_plain.specs.Honest.{IsHonest}
-use Rattle.fs_plain.specs.Replay.{Run, Replay}
-use Rattle.fs_plain.specs.Taken.{after_request}
-use Rattle.fs_plain.specs.Answered.{odd}
-use Rattle.fs_plain.specs.Differences.{difference}
+use Rattle.fs_plain.specs.Run.{Run}
+use Rattle.fs_plain.specs.Differences.{odd}
+use Rattle.fs_plain.specs.PlainSide.{PlainSide}
+use Rattle.fs_plain.specs.PlainTaken.{side_after_request}
 use Rattle.fs_plain.specs.Divergence.{divergence}
 use Rattle.fs_plain.specs.Masked.{Untold, untold, masked}
 use Rattle.fs_plain.proofs.Frames.{create_frame, opened_frame, both_frame, told_frame, chain_frame, missing_chain_frame, standard_frame, told_standard_frame, reclaim_message}
-use Rattle.fs_plain.proofs.HonestStory.{mid, run, story, makes, lets_go}
-
-abbrev pub made : Making
-made = record { room = 1000; fold = false }
-
--- the story of a whole stat diverges nowhere
-no_divergence : divergence run made story ≡ None
-unfolding components wire_request reply_in is_interim_of head_of head_at number_at first_of frames_in rest_in step_of parts_of read_of contexts_of set_of path.components path.after_part fault_of spelling untold create_request_of close_request_of query_info_request_of part_in create_reply_of close_reply_of buffer_reply_of error_reply_of all_of
-no_divergence = refl
+use Rattle.fs_plain.proofs.HonestStory.{mid, run, made, story, makes, lets_go}
 
 -- a run that ended by what the server sent
 abbrev pub broken : Run
@@ -75,15 +66,12 @@ unfolding components path.components path.after_part fault_of spelling
 goes_on = refl
 
 -- a request without a mark that is related to a refused CREATE does nothing on the plain share, whatever it asks
-refused_does_nothing : (s : Share) (r : Replay) (u : Untold) (request : Req) (real : Rep) → after_request s r None true u request real ≡ r
-refused_does_nothing s r u request real = refl
+refused_does_nothing : (s : Share) (p : PlainSide) (u : Untold) (request : Req) (real : Rep) → side_after_request s p None true u request real ≡ p
+refused_does_nothing s p u request real = refl
 
 -- a call that is not there may not begin
-not_there : difference run 1000 false (event.Joined ∷ event.Marked (mark.Begin 1 0 (call.Lstat (codes "/"))) ∷ []) ≡ Some (2, odd)
+not_there : divergence run made (event.Joined ∷ event.Marked (mark.Begin 1 0 (call.Lstat (codes "/"))) ∷ []) ≡ Some (2, odd)
 not_there = refl
-
-nor_on_the_plain_side : divergence run made (event.Joined ∷ event.Marked (mark.Begin 1 0 (call.Lstat (codes "/"))) ∷ []) ≡ Some (2, odd)
-nor_on_the_plain_side = refl
 
 -- a lease is asked for at the oplock level 0xFF alone
 no_lease_at_level_0 : (lease : Key × ℕ) → asked_lease 0 (Some lease) ≡ None
@@ -214,10 +202,6 @@ asks_less = take 12 story ++ event.Sent standard_frame ∷ event.Took (mid 1) �
 less_is_not_enough : divergence run made asks_less ≡ Some (14, odd)
 unfolding components wire_request reply_in is_interim_of head_of head_at number_at first_of frames_in rest_in step_of parts_of read_of contexts_of set_of path.components path.after_part fault_of spelling untold create_request_of close_request_of query_info_request_of part_in create_reply_of close_reply_of buffer_reply_of error_reply_of all_of
 less_is_not_enough = refl
-
-nor_in_the_replay : difference run 1000 false asks_less ≡ Some (14, odd)
-unfolding components wire_request reply_in is_interim_of head_of head_at number_at first_of frames_in rest_in step_of parts_of read_of contexts_of set_of path.components path.after_part fault_of spelling untold create_request_of close_request_of query_info_request_of part_in create_reply_of close_reply_of buffer_reply_of error_reply_of all_of
-nor_in_the_replay = refl
 
 -- a reclaim: the share's own reply says that the open is durable, and the message has no word for it
 reclaim_is_paid : Pays (owed.Reply (mid 0) reclaim_message (record { status = record { 0 = 0 }; body = body.Opened (fid_of 2) 1 0 0x10 0 true }))
