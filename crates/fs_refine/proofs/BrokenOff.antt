@@ -18,17 +18,16 @@ use Rattle.smb_link.specs.Program.{Open as Opening, Query, Close, Program, Known
 use Rattle.fs_plain.specs.Masked.{Untold, untold}
 use Rattle.fs_plain.specs.Requests.{WireRequest, wire_request}
 use Rattle.share_spec.specs.Sent.{sent_with}
-use Rattle.fs_plain.specs.World.{us, choice_now, done_of, refused_before, resolved, happens}
+use Rattle.fs_plain.specs.World.{us, choice_now, done_of, refused_before, resolved, happens, share_after}
 use Rattle.fs_plain.specs.Honest.{HonestFrom}
-use Rattle.fs_plain.specs.Replay.{Run, Owner, owner_of}
-use Rattle.fs_plain.specs.Answered.{Difference}
-use Rattle.fs_plain.specs.CleanEnd.{share_after}
-use Rattle.fs_plain.specs.Differences.{is_passed_over, first_of_two}
+use Rattle.fs_plain.specs.Run.{Run}
+use Rattle.fs_plain.specs.Owners.{Owner, owner_of}
+use Rattle.fs_plain.specs.Differences.{Difference, first_of_two}
+use Rattle.fs_plain.specs.Divergence.{is_passed_over, side_after_act, act_on_side, side_after_mark, side_done, deeds_left, side_after, judged_event, divergence_from, side_at}
 use Rattle.fs_plain.specs.Paired.{open_given, reusable, pair_given}
 use Rattle.fs_plain.specs.PlainSide.{PlainCall, PlainSide, is_deed, deeds_in, call_with, wish_done_on, with_given}
 use Rattle.fs_plain.specs.PlainTaken.{pair_ended, still_stands, side_after_next, side_after_owned, side_after_unowned, side_after_request, side_after_asked, side_after_sent, is_at_end}
 use Rattle.fs_plain.specs.PlainAnswered.{side_reopened, side_closed_early, with_kept, is_open, finished_on, is_passed_by, without_call, side_after_answer_of}
-use Rattle.fs_plain.specs.Divergence.{side_after_act, act_on_side, side_after_mark, side_done, deeds_left, side_after, judged_event, divergence_from, side_at}
 use Rattle.fs_client.specs.Item.{Item, item_with, items_but}
 use Rattle.fs_client.specs.View.{Setting, Client}
 use Rattle.fs_client.specs.After.{all_after, own}

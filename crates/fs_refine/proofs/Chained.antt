@@ -30,8 +30,9 @@ use Rattle.fs_plain.specs.Masked.{untold}
 use Rattle.fs_plain.specs.Requests.{wire_request}
 use Rattle.fs_plain.specs.Replies.{reply_in, is_interim_of, is_aside_reply}
 use Rattle.fs_plain.specs.Honest.{HonestFrom, start}
-use Rattle.fs_plain.specs.Replay.{Run, nothing_known}
-use Rattle.fs_plain.specs.CleanEnd.{share_after}
+use Rattle.fs_plain.specs.Run.{Run}
+use Rattle.fs_plain.specs.Facts.{nothing_known}
+use Rattle.fs_plain.specs.World.{share_after}
 use Rattle.fs_plain.specs.Divergence.{divergence_from, side_at}
 use Rattle.fs_plain.specs.PlainSide.{PlainCall, PlainSide, plain_side}
 use Rattle.fs_plain.proofs.AlikeLaws.{alike_beside}

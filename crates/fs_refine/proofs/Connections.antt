@@ -6,12 +6,11 @@ use Rattle.share_spec.specs.declared.share.Share.{Share}
 use Rattle.share_spec.specs.Cut.{ends_with, after_cut, after_join}
 use Rattle.smb_link.specs.declared.event.Event.TheVariants as event
 use Rattle.fs_plain.specs.World.{us}
-use Rattle.fs_plain.specs.Replay.{Run}
-use Rattle.fs_plain.specs.Differences.{ended_between}
+use Rattle.fs_plain.specs.Run.{Run}
+use Rattle.fs_plain.specs.Divergence.{ended_between, side_after_ends, side_after}
 use Rattle.fs_plain.specs.Holders.{IsHeld}
 use Rattle.fs_plain.specs.Told.{told_by_loss}
 use Rattle.fs_plain.specs.PlainSide.{PlainSide}
-use Rattle.fs_plain.specs.Divergence.{side_after_ends, side_after}
 use Rattle.fs_plain.proofs.AlikeLaws.{alike_beside, alike_calls, alike_cut}
 use Rattle.fs_client.specs.Item.{Placed}
 use Rattle.fs_client.specs.View.{Setting, View, Client}

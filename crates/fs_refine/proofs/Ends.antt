@@ -10,13 +10,12 @@ use Rattle.smb_link.specs.declared.event.Event.{Event}
 use Rattle.smb_link.specs.declared.event.Event.TheVariants as event
 use Rattle.smb_link.specs.declared.mark.Mark.TheVariants as mark
 use Rattle.smb_link.specs.Program.{of_errno}
-use Rattle.fs_plain.specs.Replay.{Run}
-use Rattle.fs_plain.specs.Answered.{Difference, is_number, ended_by, compared}
-use Rattle.fs_plain.specs.Differences.{first_of_two}
+use Rattle.fs_plain.specs.Run.{Run, ended_by}
+use Rattle.fs_plain.specs.Differences.{Difference, first_of_two}
+use Rattle.fs_plain.specs.PlainAnswered.{is_number, compared, finished_on, is_passed_by, judged_answer_of, without_call, side_after_answer_of}
 use Rattle.fs_plain.specs.Holders.{HeldByCall, HeldByFile, IsHeld}
 use Rattle.fs_plain.specs.Paired.{Pair}
 use Rattle.fs_plain.specs.PlainSide.{PlainCall, PlainSide, call_with, plain_side}
-use Rattle.fs_plain.specs.PlainAnswered.{finished_on, is_passed_by, judged_answer_of, without_call, side_after_answer_of}
 use Rattle.fs_plain.specs.Divergence.{side_after, divergence_from, side_at}
 use Rattle.fs_plain.proofs.AlikeLaws.{alike_clear, alike_closed}
 use Rattle.fs_client.specs.Item.{Item, item_with, items_but}
@@ -33,7 +32,7 @@ use Rattle.fs_refine.proofs.Changing.{well}
 use Rattle.fs_refine.proofs.Taking.{same_taken}
 use Rattle.share_spec.specs.State.{Making}
 use Rattle.fs_plain.specs.Honest.{start, IsHonest}
-use Rattle.fs_plain.specs.CleanEnd.{share_after}
+use Rattle.fs_plain.specs.World.{share_after}
 use Rattle.fs_refine.proofs.Kept.{kept, related_first}
 
 -- where no call runs no open of this client stands

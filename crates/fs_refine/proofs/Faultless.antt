@@ -1,6 +1,7 @@
--- In the frames of an honest share a client finds no fault.
+-- In the frames of an honest share a client finds no fault, and reads each reply.
 use Rattle.std.proofs.Common.{rules, arith, ◌≡◌, ◌∙◌, refl, sym, ap, subst, ℕ, zero, suc, ◌+◌, ◌%◌, ◌==◌, ◌<◌, ◌≤◌, Bool, true, false, cond, if◌then◌else◌, not, List, [], ◌∷◌, ◌++◌, length, take, drop, Option, Some, None, Result, Ok, Err, inl, inr, Less, Equal, Greater}
-use Rattle.std.specs.Prelude.{IsSomeAnd, map, filter, option_map, nat_lt, is_some, is_none, is_ok, ◌&&◌, ◌||◌}
+use Rattle.std.specs.Prelude.{IsSomeAnd, IfSome, IsOkAnd, IfOk, map, filter, option_map, nat_lt, is_some, is_none, is_ok, ◌&&◌, ◌||◌}
+use Rattle.std.specs.List.{AllByRecursion}
 use Rattle.std.specs.Ordering.{nat_cmp, is_eq}
 use Rattle.std.specs.Cmp.{nat_cmp_is}
 use Rattle.std.proofs.lemmas.Bool.{false≢true}
@@ -12,7 +13,7 @@ use Rattle.smb_chain.specs.declared.parts.BadNext.{BadNext}
 use Rattle.smb_chain.specs.Parts.{Step, Only, Then, Bad, is_bad_next, step_of, with_rest, parts_within, parts_of}
 use Rattle.smb_credit.specs.Window.{no_request}
 use Rattle.smb_field.specs.declared.field.BodyFault.TheVariants as wrong
-use Rattle.smb_head.specs.declared.command.TheConstants.{QUERY_INFO}
+use Rattle.smb_head.specs.declared.command.TheConstants.{NEGOTIATE, SESSION_SETUP, LOGOFF, TREE_CONNECT, TREE_DISCONNECT, ECHO, QUERY_INFO}
 use Rattle.smb_head.specs.declared.head.Head.{Head}
 use Rattle.smb_head.specs.declared.head.HeadFault.{HeadFault}
 use Rattle.smb_head.specs.declared.head.HeadFault.TheVariants.{Short, Magic, Size}
@@ -46,7 +47,7 @@ use Rattle.fs_client.specs.Looks.{is_early, went, all_looked, landed_owed}
 use Rattle.fs_client.specs.Owing.{IsShare, IsDueTo, IsDueAside, IsDue, AreDue}
 use Rattle.fs_client.specs.Ready.{awaited, AreWhole}
 use Rattle.fs_client.specs.Sane.{IsSent, Sane}
-use Rattle.fs_client.proofs.Lists.{none_some, some_is, itself, same_number, turned, found, found_but, found_map}
+use Rattle.fs_client.proofs.Lists.{all_append, all_of, none_some, some_is, itself, same_number, turned, found, found_but, found_map}
 use Rattle.fs_client.proofs.Flights.{it_mid, it_message, left_is}
 use Rattle.fs_client.proofs.Landing.{InTurn}
 use Rattle.fs_client.proofs.Commands.{share_command, aside_command}
@@ -54,7 +55,7 @@ use Rattle.fs_client.proofs.Readiness.{went_whole}
 use Rattle.fs_client.proofs.Bodies.{error_is, create_agrees, close_agrees, query_read, asides_agree}
 use Rattle.fs_client.proofs.Keeping.{done, reply_is, aside_is}
 use Rattle.fs_refine.specs.Related.{Related}
-use Rattle.fs_refine.specs.Faultless.{AreFaultless}
+use Rattle.fs_refine.specs.Faultless.{IsRead, AreFaultless}
 use Rattle.fs_refine.proofs.Taking.{IsWell, look_keeps, well_looked}
 use Rattle.fs_refine.proofs.Changing.{well}
 use Rattle.fs_refine.proofs.Getting.{pays_looked, paid}
@@ -94,12 +95,28 @@ command_found mid (y ∷ ys) x there = elim (eqb_tells y.mid.0 mid.0) [
     swapped : (a b : ℕ) → (a == b) ≡ true → (b == a) ≡ true
     swapped a b is = search rules
 
--- each request in flight now is awaited by the frame, and was not answered by it
+-- a request in flight now was in flight when the frame came
+record Was (v0 : View) (mid : Mid) (x : Sent) : Type 0 where
+  before : Sent
+  there : sent_with mid v0.flights ≡ Some before
+  same : before.mid.0 ≡ mid.0
+  message : before.message ≡ x.message
+
+-- each request in flight now is awaited by the frame, and was not answered by it; and the replies so far can be read
 record Awaits (v0 v : View) (t : Taken) : Type 0 where
   on : (mid : Mid) (x : Sent) → sent_with mid v.flights ≡ Some x → awaited_command (awaited v0) t mid.0 ≡ Some (command_of x.message)
+  was : (mid : Mid) (x : Sent) → sent_with mid v.flights ≡ Some x → Was v0 mid x
+  read : AllByRecursion (IsRead v0) t.replies
 
 awaits_first : (v : View) → v.early ≡ [] → Awaits v v nothing
-awaits_first v none = record { on = λ mid x there. ap (λ (l : List (ℕ × ℕ)). command_at l mid.0) (none_early v none) ∙ command_found mid v.flights x there }
+awaits_first v none = record {
+  on = λ mid x there. ap (λ (l : List (ℕ × ℕ)). command_at l mid.0) (none_early v none) ∙ command_found mid v.flights x there;
+  was = λ mid x there. record { before = x; there = there; same = its_mid mid x there; message = refl };
+  read = tt;
+}
+  where
+    its_mid : (mid : Mid) (x : Sent) → sent_with mid v.flights ≡ Some x → x.mid.0 ≡ mid.0
+    its_mid mid x there = (found (λ (y : Sent). y ≡ y) mid v.flights x there (all_of (λ (y : Sent). y ≡ y) v.flights (λ y. refl))).1
 
 -- one is answered: the others still wait
 none_with : (mid m : Mid) (xs : List Sent) → (mid.0 == m.0) ≡ true → sent_with mid (sent_but m xs) ≡ None
@@ -154,14 +171,20 @@ any_append (s ∷ rs) r id = ap (λ (b : Bool). s.mid.0 == id || b) (any_append 
 abbrev answered_too : Taken → Mid → List ℕ → Taken
 answered_too t mid part = record t { replies = t.replies ++ record { mid = mid; part = part } ∷ [] }
 
-awaits_went : (v0 v : View) (t : Taken) (x : Sent) (reply : Rep) (mid : Mid) (part : List ℕ) → mid.0 ≡ x.mid.0 → Awaits v0 v t → Awaits v0 (went x reply v) (answered_too t mid part)
-awaits_went v0 v t x reply mid part is a = record {
+awaits_went : (v0 v : View) (t : Taken) (x : Sent) (reply : Rep) (mid : Mid) (part : List ℕ) → mid.0 ≡ x.mid.0 → Awaits v0 v t → IsRead v0 (record { mid = mid; part = part })
+    → Awaits v0 (went x reply v) (answered_too t mid part)
+awaits_went v0 v t x reply mid part is a readable = record {
   on = λ m y there.
       let l = left_found m x reply v.flights y there in
       ap (λ (b : Bool). if b then None else command_at (awaited v0) m.0)
       (any_append t.replies (record { mid = mid; part = part }) m.0
       ∙ ap (λ (b : Bool). is_answered t.replies m.0 || b) (ap (λ (n : ℕ). n == m.0) is ∙ turned m.0 x.mid.0 l.apart) ∙ or_false (is_answered t.replies m.0))
       ∙ a.on m l.before l.there ∙ ap (λ (q : List ℕ). Some (command_of q)) (sym l.message);
+  was = λ m y there.
+      let l = left_found m x reply v.flights y there in
+      let w = a.was m l.before l.there in
+      record { before = w.before; there = w.there; same = w.same; message = w.message ∙ sym l.message };
+  read = all_append (IsRead v0) t.replies (record { mid = mid; part = part } ∷ []) a.read (readable, tt);
 }
   where
     or_false : (b : Bool) → (b || false) ≡ b
@@ -218,6 +241,24 @@ record Awaited (v0 v : View) (t : Taken) (x : Sent) (head : Head) : Type 0 where
   next : v.next ≤ no_request
   awaits : Awaits v0 v t
 
+-- so it can be read where its request, as it is now, reads it
+read_by : (v0 v : View) (t : Taken) (x : Sent) (head : Head) (part : List ℕ) → Awaited v0 v t x head → (command_of x.message ≡ QUERY_INFO → is_some (reply_in x.mid x.message part) ≡ true)
+    → IsRead v0 (record { mid = head.mid; part = part })
+read_by v0 v t x head part a reads =
+    let w = a.awaits.was x.mid x a.there in
+    subst (λ (o : Option Sent). IfSome o (λ (y : Sent). command_of y.message ≡ QUERY_INFO → is_some (reply_in y.mid y.message part) ≡ true))
+    (sym (subst (λ (n : ℕ). sent_with (record { 0 = n }) v0.flights ≡ Some w.before) (sym a.same) w.there))
+    (subst (λ (q : List ℕ). command_of q ≡ QUERY_INFO → is_some (reply_in w.before.mid q part) ≡ true) (sym w.message)
+    (subst (λ (n : ℕ). command_of x.message ≡ QUERY_INFO → is_some (reply_in (record { 0 = n }) x.message part) ≡ true) (sym w.same) reads))
+
+-- a request of the connection itself asks for nothing of a file
+no_query : (q : List ℕ) → wire_request q ≡ Some WireRequest.Aside → command_of q ≡ QUERY_INFO → ⊥
+no_query q aside = aside_command (λ (command : ℕ). command ≡ QUERY_INFO → ⊥) q
+    (other NEGOTIATE refl, (other SESSION_SETUP refl, (other TREE_CONNECT refl, (other LOGOFF refl, (other TREE_DISCONNECT refl, (other ECHO refl, tt)))))) aside
+  where
+    other : (n : ℕ) → (n == QUERY_INFO) ≡ false → n ≡ QUERY_INFO → ⊥
+    other n apart is = false≢true (sym apart ∙ ap (λ (m : ℕ). m == QUERY_INFO) is ∙ itself QUERY_INFO)
+
 looked_at : (v0 v : View) (t : Taken) (x : Sent) (head : Head) (part : List ℕ) → Awaited v0 v t x head → head_of part ≡ Ok head → look_of (awaited v0) t part ≡ mux.looked_reply head part
 looked_at v0 v t x head part a at =
     ap (λ (h : Result Head HeadFault). look_with h (awaited v0) t part) at
@@ -265,6 +306,12 @@ awaited_by v0 v t mid q x head w next awaits there message is =
 head_ok : (part : List ℕ) (head : Head) → head_of part ≡ Ok head → is_ok (head_of part) ≡ true
 head_ok part head at = ap (λ (h : Result Head HeadFault). is_ok h) at
 
+-- what pays a reply to a request is read by the request itself
+own_reply : (mid : Mid) (q : List ℕ) (paid : Rep) (x : Sent) (part : List ℕ) → x.mid.0 ≡ mid.0 → x.message ≡ q → reply_in mid q part ≡ Some paid → is_some (reply_in x.mid x.message part) ≡ true
+own_reply mid q paid x part same message pays =
+    subst (λ (l : List ℕ). is_some (reply_in x.mid l part) ≡ true) (sym message)
+    (subst (λ (n : ℕ). is_some (reply_in (record { 0 = n }) q part) ≡ true) (sym same) (ap (λ (o : Option Rep). is_some o) pays))
+
 -- a final reply that pays what is owed
 reply_one : (v0 v : View) (t : Taken) (mid : Mid) (q : List ℕ) (reply paid : Rep) (x : Sent) (part : List ℕ) → IsWell v → IsFit v → Awaits v0 v t → sent_with mid v.flights ≡ Some x
     → IsDueTo v q reply x → reply_in mid q part ≡ Some paid → One v0 (landed_owed (owed.Reply mid q reply) v) part (added (look_of (awaited v0) t part) part t)
@@ -299,7 +346,7 @@ reply_one v0 v t mid q reply paid x part w next awaits there due pays = by (head
           is = final_added v0 v t x head part a at int
               (subst (λ (l : List ℕ). is_none (reply_fault head.status.0 (command_of l) part) ≡ true) (sym due.message) (sound head.status.0 (ap (λ (o : Option Rep). is_some o) is)));
           awaits = subst (λ (u : View). Awaits v0 u (answered_too t head.mid part)) (sym (reply_is v mid q reply x w.early there due.first))
-              (awaits_went v0 v t x (masked q reply) head.mid part a.same awaits);
+              (awaits_went v0 v t x (masked q reply) head.mid part a.same awaits (read_by v0 v t x head part a (λ query. own_reply mid q paid x part (found (IsSent v.next) mid v.flights x there w.sane.sent).1 due.message pays)));
         }
 
     by : (h : Result Head HeadFault) → head_of part ≡ h → reply_with h mid q part ≡ Some paid → One v0 (landed_owed (owed.Reply mid q reply) v) part (added (look_of (awaited v0) t part) part t)
@@ -327,7 +374,7 @@ aside_one v0 v t mid q x part w next awaits there due pays = by (head_of part) r
           is = final_added v0 v t x head part a at (not_true (is_interim head) parts.1)
               (subst (λ (l : List ℕ). is_none (reply_fault head.status.0 (command_of l) part) ≡ true) (sym due.message) (sound head.status.0 parts.2));
           awaits = subst (λ (u : View). Awaits v0 u (answered_too t head.mid part)) (sym (aside_is v mid q x w.early there due.aside due.nobodys))
-              (awaits_went v0 v t x done head.mid part a.same awaits);
+              (awaits_went v0 v t x done head.mid part a.same awaits (read_by v0 v t x head part a (λ query. absurd (no_query x.message due.aside query))));
         }
 
     by : (h : Result Head HeadFault) → head_of part ≡ h → aside_with h mid q part ≡ true → One v0 (landed_owed (owed.Aside mid q) v) part (added (look_of (awaited v0) t part) part t)
@@ -349,7 +396,7 @@ interim_one v0 v t mid q x part w next awaits there message pays = by (head_of p
           head = head_ok part head at;
           t = record t { interim = t.interim ++ head.mid ∷ [] };
           is = interim_added v0 v t x head part a at parts.1 parts.2;
-          awaits = record { on = awaits.on };
+          awaits = record { on = awaits.on; was = awaits.was; read = awaits.read };
         }
 
 -- a message that pays what is owed has no fault
@@ -424,20 +471,24 @@ begins bytes = by (nat_lt (length bytes) 64) refl (number_at 4 20 bytes == 0)
     by false whole true = λ is. is
     by false whole false = at whole (nat_lt next 64) (not (next % 8 == 0) || nat_lt (length bytes) (next + 64)) refl
 
+-- there is no fault, and the replies can be read
+abbrev Sound : View → Result Taken TakeFault → Type 0
+Sound v0 r = IsOkAnd r (λ (t : Taken). AllByRecursion (IsRead v0) t.replies)
+
 -- the messages of a frame, one after another
 walked : (n : ℕ) (bytes : List ℕ) (v0 v : View) (t : Taken) (os : List Owed) → IsWell v → IsFit v → AreDue v os → ArePaid os (parts_within n bytes) → Awaits v0 v t
-    → is_ok (judged_within n (awaited v0) t bytes) ≡ true
-walked zero bytes v0 v t os w next due pays awaits = refl
+    → Sound v0 (judged_within n (awaited v0) t bytes)
+walked zero bytes v0 v t os w next due pays awaits = awaits.read
 walked (suc n) bytes v0 v t os w next due pays awaits =
     by (step_of bytes) (begins bytes) os due pays
     (λ rest v' t' os' w' next' due' pays' awaits'. walked n rest v0 v' t' os' w' next' due' pays' awaits')
   where
     Others : Type 0
     Others = (rest : List ℕ) (v' : View) (t' : Taken) (os' : List Owed) → IsWell v' → IsFit v' → AreDue v' os' → ArePaid os' (parts_within n rest) → Awaits v0 v' t'
-        → is_ok (judged_within n (awaited v0) t' rest) ≡ true
+        → Sound v0 (judged_within n (awaited v0) t' rest)
 
-    with_head : (st : Step) (h : Result Head HeadFault) → is_ok h ≡ true → ((head : Head) → is_ok (judged_by (Ok head) st (awaited v0) t (judged_within n (awaited v0))) ≡ true)
-        → is_ok (judged_by h st (awaited v0) t (judged_within n (awaited v0))) ≡ true
+    with_head : (st : Step) (h : Result Head HeadFault) → is_ok h ≡ true → ((head : Head) → Sound v0 (judged_by (Ok head) st (awaited v0) t (judged_within n (awaited v0))))
+        → Sound v0 (judged_by h st (awaited v0) t (judged_within n (awaited v0)))
     with_head st (Err fault) is f = absurd (false≢true is)
     with_head st (Ok head) is f = f head
 
@@ -446,25 +497,33 @@ walked (suc n) bytes v0 v t os w next due pays awaits =
 
     by : (st : Step) → Begins st bytes → (os : List Owed) → AreDue v os → ArePaid os (with_rest st (parts_within n))
         → ((rest : List ℕ) (v' : View) (t' : Taken) (os' : List Owed) → IsWell v' → IsFit v' → AreDue v' os' → ArePaid os' (parts_within n rest) → Awaits v0 v' t'
-        → is_ok (judged_within n (awaited v0) t' rest) ≡ true)
-        → is_ok (judged_by (head_of bytes) st (awaited v0) t (judged_within n (awaited v0))) ≡ true
+        → Sound v0 (judged_within n (awaited v0) t' rest))
+        → Sound v0 (judged_by (head_of bytes) st (awaited v0) t (judged_within n (awaited v0)))
     by (Only part) starts [] due pays others = absurd pays
     by (Only part) starts (o ∷ os) due pays others =
         let one = one_message v0 v t o part w next awaits due.0 pays.0 in
-        with_head (Only part) (head_of bytes) (starts one.head) (λ head. ap (λ (r : Result Taken TakeFault). is_ok r) one.is)
+        with_head (Only part) (head_of bytes) (starts one.head) (λ head. subst (Sound v0) (sym one.is) one.awaits.read)
     by (Then part rest) starts [] due pays others = absurd pays
     by (Then part rest) starts (o ∷ os) due pays others =
         let one = one_message v0 v t o part w next awaits due.0 pays.0 in
         with_head (Then part rest) (head_of bytes) (starts one.head)
-        (λ head. ap (λ (r : Result Taken TakeFault). is_ok (on_with r (λ now. judged_within n (awaited v0) now rest))) one.is
-        ∙ others rest (landed_owed o v) one.t os (well_looked o v w due.0) (still o due.0) due.1 pays.1 one.awaits)
+        (λ head. subst (λ (r : Result Taken TakeFault). Sound v0 (on_with r (λ now. judged_within n (awaited v0) now rest))) (sym one.is)
+        (others rest (landed_owed o v) one.t os (well_looked o v w due.0) (still o due.0) due.1 pays.1 one.awaits))
     by Bad starts [] due pays others = absurd pays
     by Bad starts (o ∷ os) due pays others = absurd pays
 
 -- one frame
-frame_faultless : (frame : List ℕ) (v : View) (os : List Owed) → IsWell v → IsFit v → AreDue v os → ArePaid os (parts_of frame) → is_ok (judged (awaited v) frame) ≡ true
+frame_faultless : (frame : List ℕ) (v : View) (os : List Owed) → IsWell v → IsFit v → AreDue v os → ArePaid os (parts_of frame) → Sound v (judged (awaited v) frame)
 unfolding parts_of judged_from
 frame_faultless frame v os w next due pays = walked (suc (length frame)) frame v v nothing os w next due pays (awaits_first v w.early)
+
+sound_ok : (v0 : View) (r : Result Taken TakeFault) → Sound v0 r → is_ok r ≡ true
+sound_ok v0 (Ok t) sound = refl
+sound_ok v0 (Err fault) sound = absurd sound
+
+sound_read : (v0 : View) (r : Result Taken TakeFault) → Sound v0 r → IfOk r (λ (t : Taken). AllByRecursion (IsRead v0) t.replies)
+sound_read v0 (Ok t) sound = sound
+sound_read v0 (Err fault) sound = absurd sound
 
 -- messages that are paid, and those behind them
 paid_first : (os : List Owed) (xs ys : List (Result (List ℕ) BadNext)) → ArePaid os (xs ++ ys) → ArePaid os xs
@@ -483,13 +542,15 @@ frames_faultless : (frames : List (List ℕ)) (v : View) (os : List Owed) → Is
 frames_faultless [] v os w next due pays = record {}
 frames_faultless (frame ∷ frames) v os w next due pays =
     let first : ArePaid os (parts_of frame) = paid_first os (parts_of frame) (messages_in frames) pays in
+    let sound : Sound v (judged (awaited v) frame) = frame_faultless frame v os w next due first in
     let g = paid os (parts_of frame) v first w due in (
-      frame_faultless frame v os w next due first,
+      sound_ok v (judged (awaited v) frame) sound,
+      sound_read v (judged (awaited v) frame) sound,
       frames_faultless frames (all_looked (parts_of frame) v) (drop (length (parts_of frame)) os) g.well (paid_keeps os (parts_of frame) v first w due next) g.due
           (paid_then os (parts_of frame) (messages_in frames) pays),
     )
 
--- the frames that bytes of an honest share make whole have no fault, where ids are left
+-- the frames that bytes of an honest share make whole have no fault and can be read, where ids are left
 pub never_foul : (s : Share) (p : PlainSide) (v : View) (bytes : List ℕ) → Related s p v → IsFit v → MayGet bytes s → AreFaultless (frames_in (v.held ++ bytes)) v
 never_foul s p v bytes old next may =
     frames_faultless (frames_in (v.held ++ bytes)) v s.owed (well s p v old) next old.due

@@ -25,7 +25,8 @@ use Rattle.fs_plain.specs.Replies.{command_of, answers, is_error, reply_by_statu
 use Rattle.share_spec.specs.Sent.{sent_with}
 use Rattle.fs_plain.specs.World.{mid_of, messages_in, messages_got, after_got}
 use Rattle.fs_plain.specs.Honest.{ArePaid, MayGet}
-use Rattle.fs_plain.specs.Replay.{Run, Owner, owner_of}
+use Rattle.fs_plain.specs.Run.{Run}
+use Rattle.fs_plain.specs.Owners.{Owner, owner_of}
 use Rattle.fs_plain.specs.Told.{Told, told_after}
 use Rattle.fs_plain.specs.PlainSide.{PlainSide}
 use Rattle.fs_plain.specs.Divergence.{side_after}

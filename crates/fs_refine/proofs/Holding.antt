@@ -16,14 +16,13 @@ use Rattle.share_spec.specs.declared.connection.Grant.{Grant}
 use Rattle.share_spec.specs.PlainShare.{plain_step, plain_request, shown}
 use Rattle.smb_link.specs.Program.{File, Own, Named, Wish, Open as Opening, Query, Close, Known, Program, Ask, Look, Say, settled}
 use Rattle.fs_plain.specs.World.{us}
-use Rattle.fs_plain.specs.Taken.{wish_of}
-use Rattle.fs_plain.specs.Differences.{with_number, closed_if}
-use Rattle.fs_plain.specs.Paired.{Pair, open_given}
+use Rattle.fs_plain.specs.Wishes.{wish_of}
+use Rattle.fs_plain.specs.Divergence.{with_number, closed_if, all_ended_with, spoken_for}
+use Rattle.fs_plain.specs.Paired.{Pair, open_given, plain_of_real}
 use Rattle.fs_plain.specs.PlainSide.{PlainCall, PlainSide, call_with, calls_but, with_call, nth_open, open_of_file, plain_file_id, wish_done_on, with_given}
-use Rattle.fs_plain.specs.Divergence.{plain_of_real, all_ended_with, spoken_for}
 use Rattle.fs_plain.specs.Tidy.{closes, WillClose, Tidies}
 use Rattle.fs_plain.specs.Holders.{HoldsUntilItCloses, HeldByCall, HeldByFile, IsHeld, ClosesItsOwn, AllHeld}
-use Rattle.fs_plain.specs.Related.{AreStanding}
+use Rattle.fs_plain.specs.Alike.{AreStanding}
 use Rattle.fs_plain.proofs.Opens.{IsOpened, Creates, close_every, query_every, IsGone, closed_gone, step_every}
 use Rattle.fs_plain.proofs.ShareLaws.{gives, given_number, step_creates, step_gives}
 use Rattle.fs_client.proofs.Lists.{none_some, some_is, all_more, all_map, all_filter, all_append}

@@ -6,12 +6,10 @@ use Rattle.smb_link.specs.declared.event.Event.{Event}
 use Rattle.smb_link.specs.declared.event.Event.TheVariants as event
 use Rattle.smb_link.specs.declared.mark.Mark.TheVariants as mark
 use Rattle.smb_link.specs.Story.{is_of_share}
-use Rattle.fs_plain.specs.World.{happens}
+use Rattle.fs_plain.specs.World.{happens, share_after}
 use Rattle.fs_plain.specs.Honest.{MayHappen, HonestFrom, start, IsHonest}
-use Rattle.fs_plain.specs.Replay.{Run}
-use Rattle.fs_plain.specs.Answered.{Difference}
-use Rattle.fs_plain.specs.CleanEnd.{share_after}
-use Rattle.fs_plain.specs.Differences.{first_of_two}
+use Rattle.fs_plain.specs.Run.{Run}
+use Rattle.fs_plain.specs.Differences.{Difference, first_of_two}
 use Rattle.fs_plain.specs.PlainSide.{PlainSide, plain_side}
 use Rattle.fs_plain.specs.Divergence.{side_after, judged_event, divergence_from, divergence, side_at}
 use Rattle.fs_plain.proofs.AlikeLaws.{alike_start}

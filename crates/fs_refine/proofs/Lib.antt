@@ -17,4 +17,5 @@ pub mod BrokenOff
 mod Chained
 pub mod Faultless
 pub mod Fair
-mod Whole
+pub mod Whole
+pub mod Begun

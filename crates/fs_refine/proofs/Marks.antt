@@ -16,14 +16,15 @@ use Rattle.smb_link.specs.declared.mark.Mark.TheVariants as mark
 use Rattle.smb_link.specs.Calls.{is_there, program_of}
 use Rattle.smb_link.specs.Program.{Program, Known, Ask, Look, Say, settled, of_errno}
 use Rattle.fs_plain.specs.World.{happens}
-use Rattle.fs_plain.specs.Replay.{Run, Owner, owner_of}
-use Rattle.fs_plain.specs.Answered.{odd_unless, is_number, ended_by, compared}
+use Rattle.fs_plain.specs.Run.{Run, ended_by}
+use Rattle.fs_plain.specs.Owners.{Owner, owner_of}
+use Rattle.fs_plain.specs.Differences.{odd_unless}
+use Rattle.fs_plain.specs.PlainAnswered.{is_number, compared, finished_on, is_passed_by, judged_answer_of, without_call, side_after_answer_of}
 use Rattle.fs_plain.specs.Paired.{Pair}
 use Rattle.fs_plain.specs.Told.{Told, was_begun, told_by_mark}
 use Rattle.fs_plain.specs.PlainSide.{PlainCall, PlainSide, call_with, file_named}
-use Rattle.fs_plain.specs.PlainAnswered.{finished_on, is_passed_by, judged_answer_of, without_call, side_after_answer_of}
 use Rattle.fs_plain.specs.Divergence as plain
-use Rattle.fs_plain.specs.Divergence.{may_begin, side_after, judged_event}
+use Rattle.fs_plain.specs.Divergence.{side_after, judged_event}
 use Rattle.fs_plain.specs.Holders.{AllHeld}
 use Rattle.fs_plain.proofs.AlikeLaws.{alike_calls}
 use Rattle.fs_plain.proofs.Programs.{program_tidies}

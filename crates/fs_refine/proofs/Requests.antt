@@ -13,12 +13,10 @@ use Rattle.share_spec.specs.Built.{is_built}
 use Rattle.share_spec.specs.Reply.{fid_of, map_fid}
 use Rattle.share_spec.specs.PlainShare.{shown, shown_body}
 use Rattle.smb_link.specs.Program.{File, Own, Named, Wish, Open as Opening, Query, Close}
-use Rattle.fs_plain.specs.Taken.{wish_of, is_wished}
-use Rattle.fs_plain.specs.Replay.{opened_number}
-use Rattle.fs_plain.specs.View.{NamesIn}
-use Rattle.fs_plain.specs.Paired.{Pair, pair_of_real, open_given, paired, pair_given}
+use Rattle.fs_plain.specs.Wishes.{wish_of, is_wished}
+use Rattle.fs_plain.specs.Paired.{opened_number, NamesIn, Pair, pair_of_real, open_given, paired, pair_given, plain_of_real}
 use Rattle.fs_plain.specs.PlainSide.{PlainCall, PlainSide, looked_up, nth_open, open_described, plain_file_id, with_given}
-use Rattle.fs_plain.specs.Divergence.{plain_of_real, fid_carried}
+use Rattle.fs_plain.specs.Divergence.{fid_carried}
 use Rattle.fs_client.specs.Item.{Item, Place, OfFile, KeptSince, Placed, fid_placed, fid_named, is_of_file, fids_with}
 use Rattle.fs_client.specs.Flies.{files_of}
 use Rattle.fs_client.proofs.Lists.{itself}

@@ -13,9 +13,9 @@ use Rattle.smb_link.specs.declared.event.Event.TheVariants as event
 use Rattle.smb_link.specs.Program.{Known}
 use Rattle.fs_plain.specs.Requests.{wire_request}
 use Rattle.fs_plain.specs.World.{waiting, requests_among, requests_in, happens}
-use Rattle.fs_plain.specs.Replay.{Run}
-use Rattle.fs_plain.specs.Answered.{odd_unless}
-use Rattle.fs_plain.specs.Differences.{mids_in, mids_among, from}
+use Rattle.fs_plain.specs.Run.{Run}
+use Rattle.fs_plain.specs.Differences.{odd_unless}
+use Rattle.fs_plain.specs.Owners.{mids_in, mids_among, from}
 use Rattle.fs_plain.specs.Paired.{Pair}
 use Rattle.fs_plain.specs.Told.{Told, Announcement, owned_in, is_outside, told_by_frame}
 use Rattle.fs_plain.specs.PlainSide.{PlainCall, PlainSide}

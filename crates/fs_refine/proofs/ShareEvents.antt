@@ -26,11 +26,10 @@ use Rattle.smb_link.specs.Story.{is_of_share}
 use Rattle.share_spec.specs.Sent.{sent_with, put_off}
 use Rattle.fs_plain.specs.World.{after_pend_of, act_of, grant_in, is_breakable, breakable, asked_of_first, notices, after_break, happens}
 use Rattle.fs_plain.specs.Honest.{MayPend, MayAct, MayHappen}
-use Rattle.fs_plain.specs.Replay.{Run}
+use Rattle.fs_plain.specs.Run.{Run}
 use Rattle.fs_plain.specs.Same.{same_reply}
-use Rattle.fs_plain.specs.Differences.{is_passed_over, ended_between}
+use Rattle.fs_plain.specs.Divergence.{is_passed_over, ended_between, fid_carried, act_on_side, side_after_act, judged_act, side_after_ends, side_after, judged_event}
 use Rattle.fs_plain.specs.PlainSide.{PlainSide}
-use Rattle.fs_plain.specs.Divergence.{fid_carried, act_on_side, side_after_act, judged_act, side_after_ends, side_after, judged_event}
 use Rattle.fs_plain.specs.Alike.{Alike, HasNoLeaseOfOurs}
 use Rattle.fs_plain.proofs.Steps.{Connection, connection, step_connection}
 use Rattle.fs_plain.proofs.AlikeLaws.{alike_beside, carried_step, stepped, alike_step, alike_act, alike_drop, close_ours}

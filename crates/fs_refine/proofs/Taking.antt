@@ -10,7 +10,7 @@ use Rattle.share_spec.specs.declared.share.Share.{Share}
 use Rattle.fs_plain.specs.Masked.{masked}
 use Rattle.fs_plain.specs.Requests.{WireRequest, wire_request}
 use Rattle.share_spec.specs.Sent.{sent_with}
-use Rattle.fs_plain.specs.Replay.{Owner, owner_of}
+use Rattle.fs_plain.specs.Owners.{Owner, owner_of}
 use Rattle.fs_plain.specs.PlainSide.{PlainSide}
 use Rattle.fs_client.specs.Item.{Item, on_item, gone_on}
 use Rattle.fs_client.specs.View.{View}

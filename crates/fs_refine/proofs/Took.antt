@@ -22,11 +22,10 @@ use Rattle.fs_plain.specs.Requests.{WireRequest, wire_request}
 use Rattle.fs_plain.specs.Masked.{Untold, Nothing, untold, masked}
 use Rattle.fs_plain.specs.World.{us, is_first_of_frame, is_creating, refusal_before, refused_before, resolved, unless_refused_before, choice_now, came_to, after_create, after_done, after_aside, after_taking, after_took, after_took_of}
 use Rattle.fs_plain.specs.Honest.{MayTake}
-use Rattle.fs_plain.specs.Replay.{Owner, owner_of, opened_number}
-use Rattle.fs_plain.specs.Taken.{wish_of, is_next}
-use Rattle.fs_plain.specs.Answered.{odd_unless}
-use Rattle.fs_plain.specs.View.{NamesIn}
-use Rattle.fs_plain.specs.Paired.{Pair, open_given}
+use Rattle.fs_plain.specs.Owners.{Owner, owner_of}
+use Rattle.fs_plain.specs.Paired.{opened_number, NamesIn, Pair, open_given}
+use Rattle.fs_plain.specs.Wishes.{wish_of, is_next}
+use Rattle.fs_plain.specs.Differences.{odd_unless}
 use Rattle.fs_plain.specs.PlainSide.{PlainCall, PlainSide, call_with, wish_done_on, path_opened, with_given}
 use Rattle.fs_plain.specs.PlainTaken.{side_after_wish, side_after_next, side_after_owned, is_right_of_call, side_after_request, is_right_on_side, side_after_asked, is_right_asked_on_side, side_after_sent, is_right_sent_on_side, side_after_took, is_right_took}
 use Rattle.fs_plain.specs.Alike.{Alike}

@@ -1,6 +1,6 @@
 -- A whole run of a client that does what it may: its story up to the answers that close it, and these.
-use Rattle.std.proofs.Common.{◌≡◌, ◌∙◌, refl, sym, ap, subst, ℕ, ◌==◌, Bool, true, false, cond, if◌then◌else◌, not, List, [], ◌∷◌, ◌++◌, Option, Some, None}
-use Rattle.std.specs.Prelude.{IsSomeAnd, map}
+use Rattle.std.proofs.Common.{◌≡◌, ◌∙◌, refl, sym, ap, subst, ℕ, Bool, cond, if◌then◌else◌, not, List, [], ◌∷◌, ◌++◌, Some, None}
+use Rattle.std.specs.Prelude.{IsSomeAnd}
 use Rattle.std.specs.List.{AllByRecursion}
 use Rattle.share_spec.specs.declared.share.Share.{Share}
 use Rattle.share_spec.specs.State.{Making}
@@ -10,7 +10,7 @@ use Rattle.smb_link.specs.declared.mark.Mark.TheVariants as mark
 use Rattle.smb_link.specs.Program.{of_errno}
 use Rattle.fs_plain.specs.Honest.{HonestFrom, start, IsHonest}
 use Rattle.fs_plain.specs.World.{happens}
-use Rattle.fs_plain.specs.Replay.{Run}
+use Rattle.fs_plain.specs.Run.{Run}
 use Rattle.fs_plain.specs.Divergence.{divergence}
 use Rattle.fs_plain.specs.PlainSide.{plain_side}
 use Rattle.fs_client.specs.Item.{Item, item_with, items_but}
@@ -19,7 +19,6 @@ use Rattle.fs_client.specs.After.{all_after, own}
 use Rattle.fs_client.specs.May.{Allowed}
 use Rattle.fs_client.specs.Sane.{IsApart, AreApart}
 use Rattle.fs_client.proofs.Lists.{itself}
-use Rattle.fs_client.proofs.Stays.{sane_at_first, stays_along}
 use Rattle.fs_refine.specs.Ends.{BreaksOff, AreClosings, closings}
 use Rattle.fs_refine.specs.Related.{IsOfRun}
 use Rattle.fs_refine.proofs.BrokenOff.{broken_off}
@@ -50,7 +49,7 @@ closings_front run (event.Marked (mark.Answer number a) ∷ events) later items 
 closings_front run (other ∷ events) later items are = absurd are
 
 -- a story that is honest is so up to each of its events
-honest_first : (s : Share) (events later : List Event) → HonestFrom s (events ++ later) → HonestFrom s events
+pub honest_first : (s : Share) (events later : List Event) → HonestFrom s (events ++ later) → HonestFrom s events
 honest_first s [] later honest = record {}
 honest_first s (e ∷ events) later honest = (honest.0, honest_first (happens s e) events later honest.1)
 

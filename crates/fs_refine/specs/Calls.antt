@@ -3,9 +3,8 @@ use Rattle.std.specs.Prelude.{◌≡◌, ℕ, ◌≤◌, true, false, List, [], 
 use Rattle.std.specs.List.{AllByRecursion}
 use Rattle.smb_base.specs.declared.names.Fid.{Fid}
 use Rattle.share_spec.specs.Reply.{fid_of}
-use Rattle.fs_plain.specs.Paired.{Pair}
+use Rattle.fs_plain.specs.Paired.{Pair, plain_of_real}
 use Rattle.fs_plain.specs.PlainSide.{PlainCall}
-use Rattle.fs_plain.specs.Divergence.{plain_of_real}
 use Rattle.fs_client.specs.Item.{Item, Place, OfFile, KeptSince, Placed}
 
 -- the number of the plain open that stands for the one that a file id names

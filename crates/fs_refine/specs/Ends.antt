@@ -8,8 +8,7 @@ use Rattle.smb_link.specs.declared.event.Event.{Event}
 use Rattle.smb_link.specs.declared.event.Event.TheVariants as event
 use Rattle.smb_link.specs.declared.mark.Mark.TheVariants as mark
 use Rattle.smb_link.specs.Program.{of_errno}
-use Rattle.fs_plain.specs.Replay.{Run}
-use Rattle.fs_plain.specs.Answered.{ended_by}
+use Rattle.fs_plain.specs.Run.{Run, ended_by}
 use Rattle.fs_plain.specs.PlainSide.{PlainSide}
 use Rattle.fs_client.specs.Item.{Item, item_with, items_but}
 use Rattle.fs_client.specs.View.{Setting, Client}

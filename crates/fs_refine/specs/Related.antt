@@ -5,7 +5,7 @@ use Rattle.std.specs.List.{AllByRecursion}
 use Rattle.share_spec.specs.declared.connection.Owed.{Owed}
 use Rattle.share_spec.specs.declared.connection.Sent.{Sent}
 use Rattle.share_spec.specs.declared.share.Share.{Share}
-use Rattle.fs_plain.specs.Replay.{Run}
+use Rattle.fs_plain.specs.Run.{Run}
 use Rattle.fs_plain.specs.PlainSide.{PlainSide}
 use Rattle.fs_plain.specs.Alike.{Alike, HasNoLeaseOfOurs}
 use Rattle.fs_plain.specs.Holders.{AllHeld}
