@@ -1,32 +1,36 @@
-pub mod Partial
 pub mod Ports
 pub mod Printed
-pub mod Waiting
-pub mod Parts
-pub mod PingSent
-pub mod Caused
-pub mod Once
-pub mod ByCountsLaws
-pub mod Examples
-mod Steps
-mod MountBodies
-pub mod Courses
-pub mod Exchanging
-pub mod Serving
-pub mod Completing
-pub mod Saying
-pub mod Scripted
-mod Mounting
-mod Connecting
-mod Calling
-pub mod Talking
-mod Running
-pub mod CleanEnds
-mod SharePaths
-mod RunWords
-pub mod MountCourses
-pub mod MountFailures
-mod Coming
-mod Keeping
-mod Progressing
+pub mod Printing
+pub mod Outputs
+pub mod Bytes
+pub mod Heard
+pub mod Runs
+pub mod Goings
 pub mod Scripts
+pub mod Takings
+pub mod Closed
+pub mod Started
+pub mod Joining
+pub mod Clients
+pub mod ClientsEnds
+pub mod Texts
+pub mod Pings
+pub mod ClientsRuns
+pub mod Beginning
+pub mod Telling
+pub mod Whole
+pub mod RunWords
+pub mod Promised
+pub mod Stories
+pub mod Plain
+pub mod Answered
+pub mod Favoured
+pub mod Completed
+pub mod FavourFrames
+pub mod FavourStory
+pub mod FavourMoves
+mod FavourExamples
+pub mod FavourCall
+pub mod Clean
+pub mod Thrift
+pub mod Blameless

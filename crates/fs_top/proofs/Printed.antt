@@ -6,9 +6,9 @@ use Rattle.smb_link.specs.Count.{counted}
 use Rattle.smb_link.specs.Flow.{stalled}
 use Rattle.fs_top.specs.Printing.{Held, gained, TookAll}
 
-gained-gained : (written : Option (List ℕ)) (xs ys : List ℕ) → gained (gained written xs) ys ≡ gained written (xs ++ ys)
-gained-gained None xs ys = refl
-gained-gained (Some w) xs ys = ap Some (append_assoc w xs ys)
+pub gained_twice : (written : Option (List ℕ)) (xs ys : List ℕ) → gained (gained written xs) ys ≡ gained written (xs ++ ys)
+gained_twice None xs ys = refl
+gained_twice (Some w) xs ys = ap Some (append_assoc w xs ys)
 
 -- a sink that took the text up to a place, and then n bytes more
 pub took_more : (at n : ℕ) (text : List ℕ) (old mid new : Held) → TookAll (take at text) old mid
@@ -17,7 +17,7 @@ pub took_more : (at n : ℕ) (text : List ℕ) (old mid new : Held) → TookAll 
 took_more at n text old mid new before written faults stalls = record {
   text_held = written
       ∙ ap (λ (w : Option (List ℕ)). gained w (take n (drop at text))) before.text_held
-      ∙ gained-gained old.written (take at text) (take n (drop at text))
+      ∙ gained_twice old.written (take at text) (take n (drop at text))
       ∙ ap (gained old.written) (sym (take-add at n text));
   same_faults = faults ∙ before.same_faults;
   same_stalls = stalls ∙ before.same_stalls;

@@ -1,52 +1,25 @@
--- What scripts ask for, computed.
-use Rattle.std.proofs.Common.{◌≡◌, refl, [], ◌∷◌, codes}
-use Rattle.std.specs.Char.{encode_utf8}
-use Rattle.std.specs.Str.{is_utf8, chars}
-use Rattle.fs_top.specs.declared.ahead.Over.TheVariants as over
-use Rattle.fs_top.specs.Script.{lines_of, Nothing, Refused, wanted_by, coming_of}
+-- A line of a script is looked for, and what it gives is taken.
+use Rattle.std.proofs.Common.{ℕ, List, ◌++◌, Option}
+use Rattle.fs_ahead.specs.declared.asked.Asked.{Asked}
+use Rattle.fs_ahead.specs.Script.{Coming, Place}
+use Rattle.fs_ahead.specs.Progress.{Reads, ReadsOn, Progress}
+use Rattle.fs_ahead.proofs.Progressing.{progress_look}
+use Rattle.fs_top.specs.declared.line.Next.{Next}
+use Rattle.fs_top.specs.Steps.{Passes, taken_by, ScriptGives}
 
-three_lines : lines_of (codes "a\n\nb") ≡ codes "a" ∷ [] ∷ codes "b" ∷ []
-three_lines = refl
+-- a place of a source that has this left, and failed so often
+abbrev pub reads_at : Place → Option (List ℕ) → ℕ → Reads
+reads_at place left faults = record { place = place; left = left; faults = faults }
 
-last_line_feed : lines_of (codes "a\n") ≡ codes "a" ∷ []
-last_line_feed = refl
+-- what is taken between two places, whatever the source has left
+abbrev pub TakesBy : List Asked → Place → Place → Type 0
+TakesBy more old new =
+    (script : Option Coming) (faults : ℕ) (taken : List Asked) (left : Option (List ℕ)) (now : ℕ)
+    → Progress script faults taken (reads_at old left now) → Progress script faults (taken ++ more) (reads_at new left now)
 
--- an empty line, a comment, two calls, a line that is refused, and a line behind it
-a_script : coming_of (codes "\n# c\n0 stat /a\n0 stat /b/c\n0 stat\n0 stat /d\n") ≡ record {
-  calls = record { number = 3; lane = 0; path = codes "/a" } ∷ record { number = 4; lane = 0; path = codes "/b/c" } ∷ [];
-  over = over.Line 5;
+pub script_gives : (n : Next) (running : List ℕ) (old : Reads) (mid new : Place) (left : Option (List ℕ)) (faults : ℕ)
+    → ReadsOn old (reads_at mid left faults) → TakesBy (taken_by n) mid new → Passes n running → ScriptGives n running old (reads_at new left faults)
+script_gives n running old mid new left faults on takes passes = record {
+  takes = λ script begun taken so. takes script begun taken left faults (progress_look script begun taken old (reads_at mid left faults) so on);
+  passed = passes;
 }
-unfolding is_utf8 chars encode_utf8
-a_script = refl
-
--- the last line has no LF
-to_the_end : coming_of (codes "0 stat /") ≡ record { calls = record { number = 1; lane = 0; path = codes "/" } ∷ []; over = over.End }
-unfolding is_utf8 chars encode_utf8
-to_the_end = refl
-
--- a carriage return is a byte as any other
-carriage_return : coming_of (codes "0 stat /\r\n") ≡ record { calls = []; over = over.Line 1 }
-unfolding is_utf8 chars encode_utf8
-carriage_return = refl
-
--- a comment that is not UTF-8
-no_text : wanted_by (35 ∷ 255 ∷ []) ≡ Refused
-unfolding is_utf8 chars encode_utf8
-no_text = refl
-
-a_comment : wanted_by (35 ∷ 195 ∷ 188 ∷ []) ≡ Nothing
-unfolding is_utf8 chars encode_utf8
-a_comment = refl
-
--- lines in other lanes and a pause are refused
-another_lane : coming_of (codes "15 stat /\n") ≡ record { calls = []; over = over.Line 1 }
-unfolding is_utf8 chars encode_utf8
-another_lane = refl
-
-no_lane : wanted_by (codes "16 stat /") ≡ Refused
-unfolding is_utf8 chars encode_utf8
-no_lane = refl
-
-a_pause : coming_of (codes "0 stat /\nwait\n0 stat /a\n") ≡ record { calls = record { number = 1; lane = 0; path = codes "/" } ∷ []; over = over.Line 2 }
-unfolding is_utf8 chars encode_utf8
-a_pause = refl

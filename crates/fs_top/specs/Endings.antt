@@ -1,44 +1,29 @@
--- The status and the printed line of each ending.
-use Rattle.std.specs.Prelude.{ℕ, ◌/◌, ◌%◌, List, [], ◌∷◌, ◌++◌, codes}
-use Rattle.std.specs.Fmt.{decimal}
-use Rattle.hex.specs.Hex.{encode_lower, encode_upper}
-use Rattle.fs_top.specs.declared.ending.Ending.{Ending}
-use Rattle.fs_top.specs.declared.ending.Ending.TheVariants.{Greeted, Words, Memory, Dialect, Frame, Connects, Cuts}
-use Rattle.fs_top.specs.declared.ending.FirstFrameFault.{FirstFrameFault}
-use Rattle.fs_top.specs.declared.ending.FirstFrameFault.TheVariants.{Length, Head, Chain, Stranger, Body}
+-- How the events of a run end, told of the client.
+use Rattle.std.specs.Prelude.{◌≡◌, ℕ, suc, List, [], ◌∷◌, ◌++◌}
+use Rattle.smb_head.specs.Stream.{frames_in}
+use Rattle.smb_link.specs.declared.event.Event.{Event}
+use Rattle.smb_link.specs.declared.event.Event.TheVariants as event
+use Rattle.fs_client.specs.View.{Setting, Client}
+use Rattle.fs_client.specs.After.{after, all_after}
 
-abbrev pub status_of : Ending → ℕ
-status_of (Greeted greeting) = 0
-status_of Words = 1
-status_of Memory = 3
-status_of (Dialect dialect) = 4
-status_of (Frame kind) = 5
-status_of Connects = 6
-status_of Cuts = 6
+-- events of this client end in a receive whose bytes made this frame whole
+pub record IsBy (st : Setting) (c : Client) (events : List Event) (frame : List ℕ) : Type 0 where
+  pub before : List Event
+  pub bytes : List ℕ
+  pub are : events ≡ before ++ event.Got bytes ∷ []
+  pub whole : frames_in ((all_after st c before).view.held ++ bytes) ≡ frame ∷ []
 
-abbrev pub kind_text : FirstFrameFault → List ℕ
-kind_text Length = codes "length"
-kind_text Head = codes "head"
-kind_text Chain = codes "chain"
-kind_text Stranger = codes "stranger"
-kind_text Body = codes "body"
+-- so many silences among events, no byte got, and at each a request in flight
+abbrev pub AreUnheard : Setting → Client → ℕ → List Event → Type 0
+AreUnheard st c n [] = n ≡ 0
+AreUnheard st c n (event.Quiet ∷ events) =
+    ((c.view.flights ≡ []) → ⊥) × ((others : ℕ) × (n ≡ suc others) × AreUnheard st (after st c event.Quiet) others events)
+AreUnheard st c n (event.Got bytes ∷ events) = ⊥
+AreUnheard st c n (e ∷ events) = AreUnheard st (after st c e) n events
 
--- the end of a line
-abbrev pub line_end : List ℕ
-line_end = 10 ∷ []
-
--- numbers in decimal digits, the server's id in 32 lower-case and a dialect in 4 upper-case hex digits
-abbrev pub text_of : Ending → List ℕ
-text_of (Greeted greeting) =
-    codes "smb 0x0210 caps " ++ (decimal greeting.caps
-    ++ (codes " transact " ++ (decimal greeting.transact
-    ++ (codes " read " ++ (decimal greeting.read
-    ++ (codes " write " ++ (decimal greeting.write
-    ++ (codes " guid " ++ (encode_lower greeting.guid ++ line_end)))))))))
-text_of Words = codes "fault 1 words" ++ line_end
-text_of Memory = codes "fault 3 memory" ++ line_end
-text_of (Dialect dialect) =
-    codes "fault 4 mount dialect 0x" ++ (encode_upper (dialect / 256 ∷ dialect % 256 ∷ []) ++ line_end)
-text_of (Frame kind) = codes "fault 5 frame 1 " ++ (kind_text kind ++ line_end)
-text_of Connects = codes "fault 6 connects 1" ++ line_end
-text_of Cuts = codes "fault 6 cuts 1" ++ line_end
+-- events of this client end in so many silences
+pub record IsUnheard (st : Setting) (c : Client) (n : ℕ) (events : List Event) : Type 0 where
+  pub before : List Event
+  pub later : List Event
+  pub are : events ≡ before ++ later
+  pub silent : AreUnheard st (all_after st c before) n later

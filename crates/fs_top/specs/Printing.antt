@@ -35,3 +35,9 @@ pub record TookFront (text : List ℕ) (old new : Held) : Type 0 where
   pub some_left : 0 < length rest
   pub front_held : new.written ≡ gained old.written front
   pub refused : Refused old new
+
+-- the sink took the line, and the status is that of the line; or it refused a part of the line, and the status is 8
+abbrev pub PrintedAs : List ℕ → ℕ → Held → Held → ℕ → Type 0
+PrintedAs line of_line old new status =
+    ((status ≡ of_line) × TookAll line old new)
+    ⊎ ((status ≡ 8) × TookFront line old new)

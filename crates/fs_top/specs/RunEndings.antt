@@ -1,48 +1,39 @@
--- How a run of a script ends: which end each cause is, and the line that is printed last.
-use Rattle.std.specs.Prelude.{◌≡◌, ◌⊎◌, ℕ, ◌/◌, ◌%◌, List, [], ◌∷◌, ◌++◌, codes}
+-- How a run of a script ends: the status of each end, and the line that is printed last.
+use Rattle.std.specs.Prelude.{◌≡◌, ◌⊎◌, ℕ, List, [], ◌++◌, codes}
 use Rattle.std.specs.Fmt.{decimal}
-use Rattle.hex.specs.Hex.{encode_upper}
-use Rattle.fs_asks.specs.declared.reply_kind.ReplyFault.{ReplyFault}
-use Rattle.fs_asks.specs.declared.reply_kind.ReplyFault.TheVariants as kind
-use Rattle.fs_asks.specs.declared.wire.Stop.{Stop}
-use Rattle.fs_asks.specs.declared.wire.Stop.TheVariants as stop
+use Rattle.fs_core.specs.declared.fault.Protocol.TheVariants as protocol
 use Rattle.smb_mount.specs.declared.fault.MountFault.{MountFault}
 use Rattle.smb_mount.specs.declared.fault.MountFault.TheVariants as fault
 use Rattle.fs_script.specs.Answers.{status_text}
 use Rattle.fs_top.specs.declared.run_end.End.{End}
 use Rattle.fs_top.specs.declared.run_end.End.TheVariants as end
-use Rattle.fs_top.specs.Endings.{line_end}
-use Rattle.fs_top.specs.Printing.{Held, TookAll, TookFront}
-use Rattle.fs_top.specs.Runs.{status_of}
+use Rattle.fs_top.specs.declared.run_end.Wrong.{Wrong}
+use Rattle.fs_top.specs.declared.run_end.Wrong.TheVariants as wrong
+use Rattle.fs_top.specs.FaultLines.{line_end, memory_line, dialect_line, frame_line, connects_line, cuts_line}
+use Rattle.fs_top.specs.Printing.{Held, TookAll, PrintedAs}
 
--- what the end is where the client stops after so many frames
-abbrev pub end_of : Stop → ℕ → End
-end_of stop.NoMemory frames = end.Memory
-end_of stop.Lost frames = end.Cuts
-end_of stop.Silent frames = end.Cuts
-end_of (stop.Fault kind) frames = end.Frame frames kind
-end_of stop.Frames frames = end.Frames
-
--- what the end is where the reply of a mount has this fault, after so many frames: a body that cannot be read is a wrong frame, and all
--- but want of memory a refused mount
-abbrev pub mount_end : MountFault → ℕ → End
-mount_end (fault.Malformed why) frames = end.Frame frames kind.Body
-mount_end fault.NoMemory frames = end.Memory
-mount_end why frames = end.Mount why
+-- the exit status of each end
+abbrev pub status_of : End → ℕ
+status_of end.Done = 0
+status_of (end.Line number) = 2
+status_of end.Memory = 3
+status_of (end.Mount fault) = 4
+status_of (end.Frame number wrong) = 5
+status_of (end.Connects number) = 6
+status_of end.Cuts = 6
+status_of end.Source = 7
+status_of end.Sink = 8
+status_of end.Frames = 10
 
 -- the word for what is wrong with a frame
-abbrev pub kind_text : ReplyFault → List ℕ
-kind_text kind.Length = codes "length"
-kind_text kind.Head = codes "head"
-kind_text kind.Chain = codes "chain"
-kind_text kind.Stranger = codes "stranger"
-kind_text kind.Body = codes "body"
-kind_text kind.Info = codes "info"
-kind_text kind.Credit = codes "credit"
-
--- a dialect in four upper-case hex digits
-abbrev pub dialect_text : ℕ → List ℕ
-dialect_text dialect = encode_upper (dialect / 256 ∷ dialect % 256 ∷ [])
+abbrev pub word_of : Wrong → List ℕ
+word_of wrong.Length = codes "length"
+word_of (wrong.Protocol (protocol.Head why)) = codes "head"
+word_of (wrong.Protocol (protocol.Body why)) = codes "body"
+word_of (wrong.Protocol (protocol.Info why)) = codes "info"
+word_of (wrong.Protocol protocol.Chain) = codes "chain"
+word_of (wrong.Protocol (protocol.Stranger mid)) = codes "stranger"
+word_of (wrong.Protocol protocol.NoCredit) = codes "credit"
 
 -- the line of a step of the mount that the server refused with a status, in eight upper-case hex digits
 abbrev pub refused_text : List ℕ → ℕ → List ℕ
@@ -50,7 +41,7 @@ refused_text word status = codes "fault 4 mount " ++ (word ++ (codes " " ++ (sta
 
 -- the line of a refused mount. The last two faults are none of a refused mount: the one has no line, and for the other none is made
 abbrev pub mount_text : MountFault → List ℕ
-mount_text (fault.Dialect dialect) = codes "fault 4 mount dialect 0x" ++ (dialect_text dialect ++ line_end)
+mount_text (fault.Dialect dialect) = dialect_line dialect
 mount_text fault.SigningRequired = codes "fault 4 mount signing" ++ line_end
 mount_text (fault.Session status) = refused_text (codes "session") status.0
 mount_text fault.NotGuest = codes "fault 4 mount guest" ++ line_end
@@ -63,21 +54,21 @@ mount_text fault.NoMemory = []
 abbrev pub text_of : End → List ℕ
 text_of end.Done = []
 text_of (end.Line number) = codes "fault 2 line " ++ (decimal number ++ line_end)
-text_of end.Memory = codes "fault 3 memory" ++ line_end
+text_of end.Memory = memory_line
 text_of (end.Mount why) = mount_text why
-text_of (end.Frame number kind) = codes "fault 5 frame " ++ (decimal number ++ (codes " " ++ (kind_text kind ++ line_end)))
-text_of (end.Connects number) = codes "fault 6 connects " ++ (decimal number ++ line_end)
-text_of end.Cuts = codes "fault 6 cuts 1" ++ line_end
+text_of (end.Frame number what) = frame_line number (word_of what)
+text_of (end.Connects number) = connects_line number
+text_of end.Cuts = cuts_line
 text_of end.Source = codes "fault 7 source" ++ line_end
 text_of end.Sink = []
 text_of end.Frames = codes "fault 10 frames" ++ line_end
 
--- the sink took the line of this end, and the status is the end's; or it refused a part of the line, and the status is 8
+-- the line of this end was printed, and the status is the end's; or the sink refused a part of it, and the status is 8
 abbrev pub PrintedLine : End → Held → Held → ℕ → Type 0
-PrintedLine e old new status =
-    ((status ≡ status_of e) × TookAll (text_of e) old new)
-    ⊎ ((status ≡ 8) × TookFront (text_of e) old new)
+PrintedLine e old new status = PrintedAs (text_of e) (status_of e) old new status
 
--- the line of the end was printed; or, where no memory was left to make it, the line of want of memory
+-- The line of the end was printed; or, where no memory was left to make it, the line of want of memory. Where the sink refused what was
+-- printed before, nothing more is printed.
 abbrev pub PrintedEnd : End → Held → Held → ℕ → Type 0
+PrintedEnd end.Sink old new status = (status ≡ 8) × TookAll [] old new
 PrintedEnd e old new status = PrintedLine e old new status ⊎ PrintedLine end.Memory old new status

@@ -1,21 +1,23 @@
 //! The top of the program: its words, its runs and what it prints.
 #![tactic(auto)]
 
-mod ahead;
-mod client;
-mod ending;
-mod listen;
-mod mount;
+mod close;
+mod engine;
+mod fault_lines;
+mod hear;
+mod join;
+mod line;
+mod options;
+mod output;
 mod ping;
 mod print;
-mod request;
 mod run;
 mod run_end;
-mod stat;
+mod running;
 mod top;
-mod verdict;
+mod turn;
 mod words;
 
-pub use ending::{Ending, FirstFrameFault, Greeting};
-pub use run_end::End;
+pub use ping::ending::{Ending, FirstFrameFault, Greeting};
+pub use run_end::{End, Wrong};
 pub use top::smbfs;

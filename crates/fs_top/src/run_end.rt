@@ -1,15 +1,25 @@
 //! How a run of a script ends: its status, and the line that is printed last.
 
 ghost use Rattle.std.specs.Prelude.{◌≡◌, ◌++◌, IfOk};
-ghost use Rattle.fs_top.specs.Runs.{status_of};
-ghost use Rattle.fs_top.specs.RunEndings.{end_of, kind_text, refused_text, mount_text, text_of};
+ghost use Rattle.fs_top.specs.Causes.{end_of};
+ghost use Rattle.fs_top.specs.RunEndings.{status_of, word_of, refused_text, mount_text, text_of};
 ghost use Rattle.fs_top.specs.declared.run_end.End.TheVariants as end;
 ghost use Rattle.smb_mount.specs.declared.fault.MountFault.TheVariants as fault;
 
-use fs_asks::{ReplyFault, Stop};
+use crate::fault_lines::{CUTS_LINE, MEMORY_LINE, connects_line, dialect_line, frame_line};
+use fs_core::{CoreFault, Protocol};
 use smb_base::{NoMemory, Status, Text};
 use smb_mount::MountFault;
 use std::alloc::Global;
+
+/// What is wrong with a frame.
+#[derive(Clone, Copy, Debug, PartialEq, Eq)]
+pub enum Wrong {
+    /// Its first byte is not zero, or it is too long.
+    Length,
+    /// One of its messages is none that an honest server sends.
+    Protocol(Protocol),
+}
 
 /// How a run of a script ends.
 #[derive(Clone, Copy, Debug, PartialEq, Eq)]
@@ -23,7 +33,7 @@ pub enum End {
     /// The server refused the mount: status 4.
     Mount(MountFault),
     /// The frame with this number was wrong: status 5.
-    Frame(u32, ReplyFault),
+    Frame(u32, Wrong),
     /// As many connects in a row failed: status 6.
     Connects(u32),
     /// The connection was lost, or nothing came for too long: status 6.
@@ -37,16 +47,14 @@ pub enum End {
 }
 
 impl End {
-    /// The end of a run that stops so, after so many frames.
-    pub fn of(stop: Stop, frames: u32) -> End
-        ensures { result ≡ end_of stop frames }
+    /// The end of a run whose client stops so, after so many frames.
+    pub(crate) fn of(fault: CoreFault, frames: u32) -> End
+        ensures { result ≡ end_of fault frames }
     {
-        match stop {
-            Stop::NoMemory => End::Memory,
-            Stop::Lost => End::Cuts,
-            Stop::Silent => End::Cuts,
-            Stop::Fault(kind) => End::Frame(frames, kind),
-            Stop::Frames => End::Frames,
+        match fault {
+            CoreFault::NoMemory => End::Memory,
+            CoreFault::Protocol(what) => End::Frame(frames, Wrong::Protocol(what)),
+            CoreFault::Refused(what) => End::Mount(what),
         }
     }
 
@@ -75,11 +83,11 @@ impl End {
         match self {
             End::Done => Text::of(alloc, ""),
             End::Line(number) => line_text(alloc, *number),
-            End::Memory => Text::of(alloc, "fault 3 memory\n"),
+            End::Memory => Text::of(alloc, MEMORY_LINE),
             End::Mount(fault) => mount_text(alloc, *fault),
-            End::Frame(number, kind) => frame_text(alloc, *number, *kind),
-            End::Connects(number) => connects_text(alloc, *number),
-            End::Cuts => Text::of(alloc, "fault 6 cuts 1\n"),
+            End::Frame(number, wrong) => frame_line(alloc, *number, wrong.word()),
+            End::Connects(number) => connects_line(alloc, *number),
+            End::Cuts => Text::of(alloc, CUTS_LINE),
             End::Source => Text::of(alloc, "fault 7 source\n"),
             End::Sink => Text::of(alloc, ""),
             End::Frames => Text::of(alloc, "fault 10 frames\n"),
@@ -87,6 +95,24 @@ impl End {
     }
 }
 
+impl Wrong {
+    /// The word for it in the last line.
+    fn word(self) -> &'static str
+        ensures { result.now ≡ word_of self }
+    {
+        match self {
+            Wrong::Length => "length",
+            Wrong::Protocol(Protocol::Head(_)) => "head",
+            Wrong::Protocol(Protocol::Body(_)) => "body",
+            Wrong::Protocol(Protocol::Info(_)) => "info",
+            Wrong::Protocol(Protocol::Chain) => "chain",
+            Wrong::Protocol(Protocol::Stranger(_)) => "stranger",
+            Wrong::Protocol(Protocol::NoCredit) => "credit",
+        }
+    }
+}
+
+/// The line of a refused line of the script.
 fn line_text(alloc: Global, number: u64) -> Result<Text, NoMemory>
     ensures { IfOk result (λ text. text ≡ text_of (end.Line number)) }
 {
@@ -94,40 +120,12 @@ fn line_text(alloc: Global, number: u64) -> Result<Text, NoMemory>
     Ok(Text::of_string(text))
 }
 
-fn connects_text(alloc: Global, number: u32) -> Result<Text, NoMemory>
-    ensures { IfOk result (λ text. text ≡ text_of (end.Connects number)) }
-{
-    let text = format!(in alloc; "fault 6 connects {number}\n")?;
-    Ok(Text::of_string(text))
-}
-
-fn frame_text(alloc: Global, number: u32, kind: ReplyFault) -> Result<Text, NoMemory>
-    ensures { IfOk result (λ text. text ≡ text_of (end.Frame number kind)) }
-{
-    let word = kind_word(kind);
-    let text = format!(in alloc; "fault 5 frame {number} {word}\n")?;
-    Ok(Text::of_string(text))
-}
-
-fn kind_word(kind: ReplyFault) -> &'static str
-    ensures { result.now ≡ kind_text kind }
-{
-    match kind {
-        ReplyFault::Length => "length",
-        ReplyFault::Head => "head",
-        ReplyFault::Chain => "chain",
-        ReplyFault::Stranger => "stranger",
-        ReplyFault::Body => "body",
-        ReplyFault::Info => "info",
-        ReplyFault::Credit => "credit",
-    }
-}
-
+/// The line of a refused mount.
 fn mount_text(alloc: Global, fault: MountFault) -> Result<Text, NoMemory>
     ensures { IfOk result (λ text. text ≡ mount_text fault) }
 {
     match fault {
-        MountFault::Dialect(dialect) => dialect_text(alloc, dialect),
+        MountFault::Dialect(dialect) => dialect_line(alloc, dialect),
         MountFault::SigningRequired => Text::of(alloc, "fault 4 mount signing\n"),
         MountFault::Session(status) => status_text(alloc, "session", status),
         MountFault::NotGuest => Text::of(alloc, "fault 4 mount guest\n"),
@@ -138,16 +136,7 @@ fn mount_text(alloc: Global, fault: MountFault) -> Result<Text, NoMemory>
     }
 }
 
-// A dialect in four upper-case hex digits.
-fn dialect_text(alloc: Global, dialect: u16) -> Result<Text, NoMemory>
-    ensures { IfOk result (λ text. text ≡ mount_text (fault.Dialect dialect)) }
-{
-    let digits = hex::encode_upper(alloc, [(dialect / 256) as u8, (dialect % 256) as u8])?;
-    let text = format!(in alloc; "fault 4 mount dialect 0x{digits}\n")?;
-    Ok(Text::of_string(text))
-}
-
-// A status in eight upper-case hex digits.
+/// The line of a step of the mount that was refused with a status, in eight upper-case hex digits.
 fn status_text(alloc: Global, word: &str, status: Status) -> Result<Text, NoMemory>
     ensures { IfOk result (λ text. text ≡ refused_text word.now status.0) }
 {
@@ -156,6 +145,7 @@ fn status_text(alloc: Global, word: &str, status: Status) -> Result<Text, NoMemo
     Ok(Text::of_string(text))
 }
 
+/// The line of a share of another kind.
 fn disk_text(alloc: Global, kind: u8) -> Result<Text, NoMemory>
     ensures { IfOk result (λ text. text ≡ mount_text (fault.NotDisk kind)) }
 {

@@ -2,24 +2,25 @@
 
 ghost use Rattle.std.specs.Prelude.{◌≡◌, ◌≢◌, ◌⊎◌, ℕ, List, [], Some, true, false, map, option_map, string_bytes};
 ghost use Rattle.smb_link.specs.declared.event.Event.{Event};
-ghost use Rattle.fs_top.specs.declared.ending.Ending.{Ending};
+ghost use Rattle.fs_top.specs.declared.ping.ending.Ending.{Ending};
 ghost use Rattle.smb_link.specs.Came.{seen_by, Came};
-ghost use Rattle.fs_top.specs.Counts.{ByCounts};
-ghost use Rattle.fs_top.specs.Printing.{held_by, TookAll, TookFront};
-ghost use Rattle.fs_plain.specs.Answered.{ended_by};
-ghost use Rattle.fs_plain.specs.Moves.{PlainAnswers, CleanEnds};
-ghost use Rattle.fs_top.specs.Run.{Ran, Causes, Printed};
-ghost use Rattle.fs_top.specs.RunEndings.{PrintedEnd};
-ghost use Rattle.fs_top.specs.RunCourse.{RunEnds};
+ghost use Rattle.fs_top.specs.Ping.Counts.{ByCounts};
+ghost use Rattle.fs_top.specs.Printing.{held_by};
+ghost use Rattle.fs_top.specs.Ping.Run.{Ran, Causes, Printed};
+ghost use Rattle.fs_top.specs.declared.run_end.End.{End};
+ghost use Rattle.fs_top.specs.RunEndings.{PrintedLine, PrintedEnd};
+ghost use Rattle.fs_top.specs.Words.{IsPing, IsRun, AreRun};
+ghost use Rattle.smb_link.specs.Once.{WentOnlyTo};
+ghost use Rattle.fs_ahead.specs.Script.{coming_of};
+ghost use Rattle.fs_top.specs.Connects.{CutsOnce};
+ghost use Rattle.fs_top.specs.Run.{run_options, tries_of, core_of, RunIs};
+ghost use Rattle.fs_top.specs.Headline.{PlainAnswers, CleanEnds, SendsFew};
 ghost use Rattle.fs_top.specs.Completeness.{Completes};
-ghost use Rattle.fs_top.specs.Script.{coming_of};
-ghost use Rattle.fs_top.specs.Runs.{run_options, status_of};
-ghost use Rattle.fs_top.specs.MountCourse.{start_of};
-ghost use Rattle.fs_top.specs.Words.{IsRun, AreRun};
 
-use crate::ending::{Ending, MEMORY_TEXT};
+use crate::fault_lines::MEMORY_LINE;
+use crate::ping::ending::Ending;
 use crate::ping::ping;
-use crate::print::put_all;
+use crate::print::print_line;
 use crate::run::run_script;
 use crate::run_end::End;
 use crate::words::{read_ping, read_run};
@@ -60,28 +61,43 @@ pub fn smbfs<S: Source, K: Sink, L: Link, C: Clock>(
     ensures source { (AreRun (map string_bytes words.now.items) → ⊥) → input.new ≡ input.old }
     ensures clock { (AreRun (map string_bytes words.now.items) → ⊥) → clock.new ≡ clock.old }
 
-    // A run, event by event: its connects, the requests of the mount of that share and the replies that accept it, the calls of its script
-    // with their answers, what is printed of them, the leaving of the share, the cause of its end and the last line. Where the source tells
-    // its bytes, the calls are those that the script asks for.
+    // A ping connects to its host and port alone, and other words to nothing. No connection is ended by the program itself but one that
+    // stood before.
+    ensures ping_places { (host : List ℕ) (port : ℕ) → IsPing (map string_bytes words.now.items) host port → WentOnlyTo (record { host = host; port = port }) (L.places link.old) (L.places link.new) }
+    ensures nowhere { (AreRun (map string_bytes words.now.items) → ⊥) → ((host : List ℕ) (port : ℕ) → IsPing (map string_bytes words.now.items) host port → ⊥) → L.places link.new ≡ L.places link.old }
+    ensures own_cuts { CutsOnce (L.stands link.old) (L.own_cuts link.old) (L.own_cuts link.new) }
+
+    // A run: its connects, and then turn after turn, each one input of the core, which the link, the script or the clock gave, and its
+    // frames, marks and answers in order, which are what a client may do and no more; the calls are those of the script; what is printed; the
+    // cause of the end, and the calls that are closed then; and the last line.
     ensures runs { (host : List ℕ) (port : ℕ) (share : List ℕ) → IsRun (map string_bytes words.now.items) host port share
-        → RunEnds (start_of seed host share) (option_map coming_of (S.left input.old)) (S.faults input.old) (S.faults input.new) (L.stands link.old)
+        → RunIs (core_of seed host share) (tries_of run_options) run_options.patience (option_map coming_of (S.left input.old)) (S.faults input.old) (S.faults input.new)
+        (C.told clock.old) (C.told clock.new) (L.stands link.old)
         (seen_by L.story L.connect_faults L.cuts L.quiets link.old) (seen_by L.story L.connect_faults L.cuts L.quiets link.new)
         (held_by K.written K.faults K.stalls out.old) (held_by K.written K.faults K.stalls out.new) result }
 
+    // It connects to that host and port alone.
+    ensures places { (host : List ℕ) (port : ℕ) (share : List ℕ) → IsRun (map string_bytes words.now.items) host port share
+        → WentOnlyTo (record { host = host; port = port }) (L.places link.old) (L.places link.new) }
+
     // Every answer of a run is the plain client's: where the link tells its story from its beginning on, and an honest share tells one
     // like it, the plain client has the same answers, and so have the others.
-    ensures plain { AreRun (map string_bytes words.now.items) → L.stands link.old ≡ false → L.story link.old ≡ Some []
-        → PlainAnswers run_options seed result (L.story link.new) }
+    ensures plain { (host : List ℕ) (port : ℕ) (share : List ℕ) → IsRun (map string_bytes words.now.items) host port share
+        → L.stands link.old ≡ false → L.story link.old ≡ Some [] → PlainAnswers (core_of seed host share).setting result (L.story link.new) }
 
     // And it leaves the share clean: at the statuses 0, 2 and 7 with the files and names that the plain client leaves, and no open of its
     // own.
-    ensures clean { AreRun (map string_bytes words.now.items) → L.stands link.old ≡ false → L.story link.old ≡ Some []
-        → CleanEnds run_options seed result (L.story link.new) }
+    ensures clean { (host : List ℕ) (port : ℕ) (share : List ℕ) → IsRun (map string_bytes words.now.items) host port share
+        → L.stands link.old ≡ false → L.story link.old ≡ Some [] → CleanEnds (core_of seed host share).setting result (L.story link.new) }
+
+    // No frame is sent in vain: a stat is one frame wherever the credits allow it.
+    ensures thrift { (host : List ℕ) (port : ℕ) (share : List ℕ) → IsRun (map string_bytes words.now.items) host port share
+        → L.stands link.old ≡ false → L.story link.old ≡ Some [] → SendsFew (core_of seed host share).setting (L.story link.new) }
 
     // A valid script is carried out, on an honest share and a connection that lets it: the status is 0, or 3 for want of memory.
     ensures completes { (host : List ℕ) (port : ℕ) (share : List ℕ) → IsRun (map string_bytes words.now.items) host port share
         → L.stands link.old ≡ false → L.story link.old ≡ Some []
-        → Completes (start_of seed host share) (option_map coming_of (S.left input.old)) (S.faults input.old) (S.faults input.new)
+        → Completes (core_of seed host share).setting run_options.patience (option_map coming_of (S.left input.old)) (S.faults input.old) (S.faults input.new)
         (held_by K.written K.faults K.stalls out.old) (held_by K.written K.faults K.stalls out.new) (L.story link.new) result }
 {
     match read_run(words) {
@@ -107,27 +123,44 @@ fn run_ping<K: Sink, L: Link>(
     ensures counts { ByCounts (L.stands link.old)
         (seen_by L.story L.connect_faults L.cuts L.quiets link.old) (seen_by L.story L.connect_faults L.cuts L.quiets link.new) result }
     ensures never { (result ≢ 2) × (result ≢ 7) × (result ≢ 10) }
+    ensures places { (host : List ℕ) (port : ℕ) → IsPing (map string_bytes words.now.items) host port → WentOnlyTo (record { host = host; port = port }) (L.places link.old) (L.places link.new) }
+    ensures nowhere { ((host : List ℕ) (port : ℕ) → IsPing (map string_bytes words.now.items) host port → ⊥) → L.places link.new ≡ L.places link.old }
+    ensures own_cuts { CutsOnce (L.stands link.old) (L.own_cuts link.old) (L.own_cuts link.new) }
 {
     let ending = run(alloc, words, link, seed);
     finish(alloc, out, &ending)
 }
 
-/// Prints the last line of a run of a script, and answers its status; 8 where the sink refuses the line.
+/// Prints the last line of a run of a script, and answers its status; 8 where the sink refuses the line. Where it refused what was printed
+/// before, nothing more is printed.
 fn close<K: Sink>(alloc: Global, out: &mut K, end: &End) -> u8
-    ensures ended { ended_by (status_of end.now) result ≡ true }
     ensures printed { PrintedEnd end.now (held_by K.written K.faults K.stalls out.old) (held_by K.written K.faults K.stalls out.new) result }
+{
+    match end {
+        End::Sink => 8,
+        _ => close_with(alloc, out, end),
+    }
+}
+
+/// The same where the sink refused nothing before.
+fn close_with<K: Sink>(alloc: Global, out: &mut K, end: &End) -> u8
+    ensures printed { PrintedLine end.now (held_by K.written K.faults K.stalls out.old) (held_by K.written K.faults K.stalls out.new) result
+        ⊎ PrintedLine End.Memory (held_by K.written K.faults K.stalls out.old) (held_by K.written K.faults K.stalls out.new) result }
 {
     match end.text(alloc) {
         Ok(text) => print_line(out, text.as_str(), end.status()),
-        Err(_) => print_line(out, MEMORY_TEXT, 3),
+        Err(_) => print_line(out, MEMORY_LINE, 3),
     }
 }
 
 /// Does what the words say.
 fn run<L: Link>(alloc: Global, words: &Vec<String>, link: &mut L, seed: [u8; 16]) -> Ending
-    ensures { (events : List Event)
+    ensures ends { (events : List Event)
         × Came events (seen_by L.story L.connect_faults L.cuts L.quiets link.old) (seen_by L.story L.connect_faults L.cuts L.quiets link.new)
         × ((result ≡ Ending.Memory) ⊎ Causes (map string_bytes words.now.items) (L.stands link.old) seed events result) }
+    ensures places { (host : List ℕ) (port : ℕ) → IsPing (map string_bytes words.now.items) host port → WentOnlyTo (record { host = host; port = port }) (L.places link.old) (L.places link.new) }
+    ensures nowhere { ((host : List ℕ) (port : ℕ) → IsPing (map string_bytes words.now.items) host port → ⊥) → L.places link.new ≡ L.places link.old }
+    ensures own_cuts { CutsOnce (L.stands link.old) (L.own_cuts link.old) (L.own_cuts link.new) }
 {
     match read_ping(words) {
         Some((host, port)) => ping(alloc, link, host, port, seed),
@@ -142,18 +175,6 @@ fn finish<K: Sink>(alloc: Global, out: &mut K, ending: &Ending) -> u8
 {
     match ending.text(alloc) {
         Ok(text) => print_line(out, text.as_str(), ending.status()),
-        Err(_) => print_line(out, MEMORY_TEXT, 3),
-    }
-}
-
-/// Prints a line, and answers this status, or 8 where the sink refuses the line.
-fn print_line<K: Sink>(out: &mut K, line: &str, status: u8) -> u8
-    ensures { ((result ≡ status) × TookAll line.now (held_by K.written K.faults K.stalls out.old) (held_by K.written K.faults K.stalls out.new))
-        ⊎ ((result ≡ 8) × TookFront line.now (held_by K.written K.faults K.stalls out.old) (held_by K.written K.faults K.stalls out.new)) }
-{
-    if put_all(out, line.as_bytes()) {
-        status
-    } else {
-        8
+        Err(_) => print_line(out, MEMORY_LINE, 3),
     }
 }

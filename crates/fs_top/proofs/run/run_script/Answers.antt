@@ -1,50 +1,39 @@
-use Rattle.std.proofs.Common.{[], refl, ap, length, subst}
-use Rattle.std.specs.Prelude.{option_map}
-use Rattle.smb_link.specs.Came.{seen_by}
-use Rattle.fs_top.specs.Script.{coming_of}
-use Rattle.fs_plain.specs.View.{no_view}
-use Rattle.fs_plain.proofs.Leaving.{leaves_now}
-use Rattle.fs_asks.specs.Exchange.{resting}
-use Rattle.fs_top.specs.Printing.{held_by}
-use Rattle.fs_top.specs.Runs.{run_options}
-use Rattle.fs_top.specs.declared.run_end.End.TheVariants as end
-use Rattle.fs_top.proofs.SharePaths.{share_path-short}
-use Rattle.fs_top.proofs.Running.{leads_finishes, finishes_leaves}
-use Rattle.smb_mount.specs.Kept as kept
-use Rattle.fs_asks.specs.Course.{Does}
-use Rattle.fs_top.specs.MountCourse.{start_of}
-use Rattle.fs_top.specs.RunCourse.{MountsSo}
-use Rattle.fs_top.proofs.Scripted.{start_is, run_unjoined, run_memory, run_joined}
+use Rattle.std.proofs.Common.{ℕ, [], refl, subst}
+use Rattle.fs_ahead.specs.Script.{Place}
+use Rattle.fs_top.specs.Steps.{state_of}
+use Rattle.fs_top.specs.Going.{Outside, outside_by}
+use Rattle.fs_top.specs.Running.{first_place, RanThrough}
+use Rattle.fs_top.specs.Run.{core_of, joined_with}
+use Rattle.fs_top.proofs.Started.{never_began, ran_script}
 use Rattle.fs_top.proofs.run.run_script.Goals as goal
 
-pub returns-in-Err : goal.returns-in-Err
-returns-in-Err g c = record {
-  came = run_memory (start_of c.args.seed c.args.host.now c.args.share.now) (option_map coming_of (g.S.Source.left c.args.input.now)) (g.S.Source.faults c.args.input.now) (g.S.Source.faults c.args.input.now) (g.L.Link.stands c.args.link.now) (held_by g.K.Sink.written g.K.Sink.faults g.K.Sink.stalls c.args.out.now) (seen_by g.L.Link.story g.L.Link.connect_faults g.L.Link.cuts g.L.Link.quiets c.args.link.now);
-  finishes = λ none. finishes_leaves c.args.seed end.Memory no_view (g.L.Link.story c.args.link.now) (g.L.Link.story c.args.link.now) refl (leaves_now run_options c.args.seed no_view (g.L.Link.story c.args.link.now));
-}
+pub returns-in-Err-clause-runs : goal.returns-in-Err-clause-runs
+returns-in-Err-clause-runs g c = (
+  first_place,
+  never_began 4 300 (g.L.Link.stands c.args.link.now) (joined_with (core_of c.args.seed c.args.host.now c.args.share.now))
+      (outside_by g.S.Source.left g.S.Source.faults g.K.Sink.written g.K.Sink.faults g.K.Sink.stalls g.L.Link.story g.L.Link.connect_faults g.L.Link.cuts g.L.Link.quiets g.C.Clock.told
+      first_place c.args.input.now c.args.out.now c.args.link.now c.args.clock.now),
+)
 
-pub returns-in-Ok-join : goal.returns-in-Ok-join
-returns-in-Ok-join g c =
-    let seen = seen_by g.L.Link.story g.L.Link.connect_faults g.L.Link.cuts g.L.Link.quiets in
-    let held = held_by g.K.Sink.written g.K.Sink.faults g.K.Sink.stalls in
-    record {
-      came = run_joined (start_of c.args.seed c.args.host.now c.args.share.now) (option_map coming_of (g.S.Source.left c.args.input.now)) (g.S.Source.faults c.args.input.now) (g.S.Source.faults c.run_joined.new.input) (g.L.Link.stands c.args.link.now) c.run_joined.result (held c.args.out.now) (held c.run_joined.new.out) (seen c.args.link.now) (seen c.join.new.link) (seen c.run_joined.new.link) c.in-Ok-join.ensures.came
-          (subst (λ (k : kept.Start). Does (MountsSo k (option_map coming_of (g.S.Source.left c.args.input.now)) (g.S.Source.faults c.args.input.now) (g.S.Source.faults c.run_joined.new.input) c.run_joined.result (held c.args.out.now) (held c.run_joined.new.out)) (seen c.join.new.link) (seen c.run_joined.new.link))
-          (start_is c.new.result c.args.seed c.args.host.now c.args.share.now c.in-Ok.path c.new.ensures.guid c.new.ensures.path c.new.ensures.previous c.in-Ok.ensures) c.run_joined.ensures.came);
-      finishes = λ none.
-          leads_finishes c.args.seed c.run_joined.result no_view (resting [] [] 0) (g.L.Link.story c.args.link.now) (g.L.Link.story c.join.new.link) (g.L.Link.story c.run_joined.new.link)
-          (c.in-Ok-join.ensures.joins none run_options c.args.seed) c.run_joined.ensures.finishes;
-    }
-
-pub returns-in-Err-join : goal.returns-in-Err-join
-returns-in-Err-join g c =
-    let seen = seen_by g.L.Link.story g.L.Link.connect_faults g.L.Link.cuts g.L.Link.quiets in
-    let held = held_by g.K.Sink.written g.K.Sink.faults g.K.Sink.stalls in
-    record {
-      came = run_unjoined (start_of c.args.seed c.args.host.now c.args.share.now) (option_map coming_of (g.S.Source.left c.args.input.now)) (g.S.Source.faults c.args.input.now) (g.S.Source.faults c.args.input.now) (g.L.Link.stands c.args.link.now) c.in-Err-join.end (held c.args.out.now) (seen c.args.link.now) (seen c.join.new.link) c.in-Err-join.ensures.came;
-      finishes = λ none.
-          finishes_leaves c.args.seed c.in-Err-join.end no_view (g.L.Link.story c.args.link.now) (g.L.Link.story c.join.new.link) c.in-Err-join.ensures.joins.0 (c.in-Err-join.ensures.joins.1 none run_options c.args.seed);
-    }
-
-pub new-requires : goal.new-requires
-new-requires g c = rw (ap length c.in-Ok.ensures) (share_path-short c.args.host.now c.args.share.now c.utf8.host c.utf8.share c.requires.short.0 c.requires.short.1)
+pub returns-clause-runs : goal.returns-clause-runs
+returns-clause-runs g c =
+    let outside = outside_by g.S.Source.left g.S.Source.faults g.K.Sink.written g.K.Sink.faults g.K.Sink.stalls g.L.Link.story g.L.Link.connect_faults g.L.Link.cuts g.L.Link.quiets g.C.Clock.told in
+    let stood = g.L.Link.stands c.args.link.now in
+    let first = c.in-Ok.engine in
+    let last = c.run_through-end.new.engine in
+    let new = c.run_through-end.new in
+    let b : Outside = outside last.ahead new.input new.out new.link new.clock in
+    let fresh = c.in-Ok.ensures.fresh in
+    let by_patience : RanThrough 4 300 stood (state_of first []) c.run_through-end.result (state_of last []) last.over
+    (outside first.ahead c.args.input.now c.args.out.now c.args.link.now c.args.clock.now) b =
+    subst (λ (p : ℕ). RanThrough 4 p stood (state_of first []) c.run_through-end.result (state_of last []) last.over
+    (outside first.ahead c.args.input.now c.args.out.now c.args.link.now c.args.clock.now) b) fresh.2 c.run_through-end.ensures.through in
+    let through : RanThrough 4 300 stood (state_of first []) c.run_through-end.result (state_of last []) last.over
+    (outside first_place c.args.input.now c.args.out.now c.args.link.now c.args.clock.now) b =
+    subst (λ (p : Place). RanThrough 4 300 stood (state_of first []) c.run_through-end.result (state_of last []) last.over
+    (outside p c.args.input.now c.args.out.now c.args.link.now c.args.clock.now) b) fresh.1 by_patience in (
+      last.ahead,
+      ran_script 4 300 stood (joined_with (core_of c.args.seed c.args.host.now c.args.share.now)) (state_of first []) (state_of last []) c.run_through-end.result c.close_off.result last.over
+          (outside first_place c.args.input.now c.args.out.now c.args.link.now c.args.clock.now) b (outside last.ahead new.input c.close_off.new.out c.close_off.new.link new.clock)
+          c.in-Ok.ensures.state through c.close_off.ensures.closes refl refl,
+    )

@@ -1,9 +1,0 @@
-pub mod Written
-pub mod Seen
-pub mod Judged
-pub mod Foul
-pub mod Hearing
-pub mod Exchange
-pub mod Asking
-pub mod Course
-pub mod Credits

@@ -1,9 +1,0 @@
-pub mod Printed
-pub mod Printing
-pub mod Outputs
-pub mod Bytes
-pub mod Heard
-pub mod Runs
-pub mod Joining
-pub mod Clients
-pub mod ClientsEnds

@@ -1,0 +1,9 @@
+pub mod Partial
+pub mod Waiting
+pub mod Parts
+pub mod PingSent
+pub mod Caused
+pub mod Once
+pub mod ByCountsLaws
+pub mod Examples
+pub mod Places
