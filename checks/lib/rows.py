@@ -4,9 +4,13 @@ import socket
 import struct
 import threading
 
+import smb
+
 HERE = os.path.dirname(os.path.abspath(__file__))
 FILE = os.path.join(HERE, "..", "..", "crates", "fs_rows", "stdin")
 REPLY, INTERIM, PENDING = 1, 3, 0x103
+# the id of a message that answers no request, and the seconds of a moment
+NOTICE, MOMENT = 2**64 - 1, 0.2
 # what a row says of a run with another side, and of an outside that fails
 OTHERS = {"box", "mount", "says", "turns", "serve", "act", "connect", "receive", "over", "send", "ask", "request", "story", "clock", "fail-read", "fail-write"}
 EXPECTED = {">", "status", "sent", "connects", "frame", "marks"}
@@ -50,6 +54,8 @@ class Row:
     def comes(self, word, rest, names):
         if word == "head":
             self.head = names.bytes(rest)
+        elif word == "credits":
+            self.head = self.head[:14] + struct.pack("<H", int(rest)) + self.head[16:]
         elif word == "got":
             self.steps.append(names.bytes(rest))
         elif word == "reply":
@@ -65,6 +71,8 @@ class Row:
         elif word == "patch":
             number, place, patch = rest.split(" ", 2)
             self.patch(int(number), int(place), names.bytes(patch))
+        elif word == "join":
+            self.join(int(rest))
         else:
             self.others.add(word)
 
@@ -82,13 +90,22 @@ class Row:
         frame[4 + place:4 + place + len(patch)] = patch
         self.steps[at] = bytes(frame)
 
+    def join(self, many):
+        """Makes one frame of the last ones: each message but the last is filled up to a multiple of eight, and says where the next begins."""
+        self.steps, frames = self.steps[:-many], self.steps[-many:]
+        whole = b""
+        for frame in frames[:-1]:
+            message = frame[4:] + bytes(-(len(frame) - 4) % 8)
+            whole += message[:20] + struct.pack("<I", len(message)) + message[24:]
+        self.steps.append(smb.frame(whole + frames[-1][4:]))
+
     def wanted(self, word, rest):
         if word == ">":
             self.printed += rest.encode() + b"\n"
         elif word == "status":
             self.status = int(rest)
         elif word == "sent":
-            self.sent = [int(command) for command in rest.split()]
+            self.sent = [[int(command) for command in frame.split("+")] for frame in rest.split()]
         elif word == "connects":
             self.connects = int(rest)
 
@@ -143,11 +160,19 @@ def read():
     return rows
 
 
+def answered(frame):
+    """The ids of the requests that a frame's messages answer."""
+    parts = [part for part in smb.parts(frame[4:]) if part.startswith(b"\xfeSMB") and len(part) >= 64]
+    return [smb.message_id(part) for part in parts if smb.message_id(part) != NOTICE]
+
+
 class Peer:
-    """Plays a row's steps over one connection: after each request the next frame, and after an interim reply the one behind it."""
+    """Plays a row's steps over one connection. Each frame comes once the requests that it answers came, or where they do not come, once the
+    program is silent for a moment. It keeps the frames that came."""
 
     def __init__(self, row, size):
-        self.steps, self.size, self.frames = list(row.steps), size, []
+        self.steps, self.size, self.frames, self.held = list(row.steps), size, [], b""
+        self.sent = len(row.sent) if row.sent is not None else None
         self.listener = socket.socket()
         self.listener.bind(("127.0.0.1", 0))
         self.listener.listen(1)
@@ -157,7 +182,7 @@ class Peer:
         self.thread.start()
 
     def end(self):
-        """Ends the wait for a connection that does not come, and gives the messages that came."""
+        """Ends the wait for a connection that does not come, and gives the frames that came."""
         try:
             socket.create_connection(("127.0.0.1", self.port), 1).close()
         except OSError:
@@ -174,36 +199,41 @@ class Peer:
         with peer:
             peer.setsockopt(socket.IPPROTO_TCP, socket.TCP_NODELAY, 1)
             try:
-                while self.one(peer):
-                    pass
+                self.play(peer)
             except OSError:
                 pass
 
-    def one(self, peer):
-        # behind the last step the program may still ask, and then the connection ends
-        peer.settimeout(60 if self.steps else 1)
-        head = self.take(peer, 4)
-        message = head and self.take(peer, struct.unpack(">I", head)[0])
-        if not message:
-            return False
-        self.frames.append(message)
-        while self.steps:
-            step = self.steps.pop(0)
+    def play(self, peer):
+        for step in self.steps:
             if step is None:
-                return False
+                break
             if isinstance(step, int):
-                return self.take(peer, 1) is not None
+                # the client's patience ends before this time
+                while self.hear(peer, 60):
+                    pass
+                return
+            self.wait_for(peer, answered(step))
             for at in range(0, len(step), self.size):
                 peer.sendall(step[at:at + self.size])
-            if step[12:16] != struct.pack("<I", PENDING):
-                return True
-        return False
+        # behind the last step the program may still ask, and then the connection ends
+        while self.hear(peer, MOMENT if self.sent is not None and len(self.frames) >= self.sent else 2):
+            pass
 
-    def take(self, peer, number):
-        data = b""
-        while len(data) < number:
-            more = peer.recv(number - len(data))
-            if not more:
-                return None
-            data += more
-        return data
+    def wait_for(self, peer, ids):
+        """Waits until requests with these ids came."""
+        while not ids or max(ids) >= sum(1 for frame in self.frames for _ in smb.parts(frame)):
+            if not self.hear(peer, MOMENT):
+                return
+
+    def hear(self, peer, seconds):
+        """Takes what the program sends next, and says whether it sent something within so many seconds."""
+        peer.settimeout(seconds)
+        try:
+            data = peer.recv(65536)
+        except socket.timeout:
+            return False
+        self.held += data
+        for frame in smb.frames(self.held):
+            self.held = self.held[4 + len(frame):]
+            self.frames.append(frame)
+        return data != b""

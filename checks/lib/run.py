@@ -7,6 +7,7 @@ from concurrent.futures import ThreadPoolExecutor
 import peers
 import rows
 import smb
+from lanes import EVERY_BIT
 
 PROGRAM = sys.argv[1]
 SESSION, TREE, FILE = 0x1122334455667788, 0x99, bytes(range(1, 17))
@@ -37,7 +38,7 @@ def judge(messages):
             yield f"tree {tree:x} in command {command}"
         if command == smb.TREE and "\\\\127.0.0.1\\s".encode("utf-16-le") not in data:
             yield "another path of a share"
-        if command in (smb.QUERY, smb.CLOSE) and FILE not in data:
+        if command in (smb.QUERY, smb.CLOSE) and (EVERY_BIT if smb.is_related(data) else FILE) not in data:
             yield "another file id"
 
 
@@ -46,26 +47,26 @@ def run(words, script, stdout=subprocess.PIPE):
 
 
 def play(row, size, stdout=subprocess.PIPE):
-    """What the program printed, its status, and the messages that it sent."""
+    """What the program printed, its status, and the messages of each frame that it sent."""
     if row.refused:
-        done, messages = run(words_for(row, peers.free_port()), row.script, stdout), []
+        done, frames = run(words_for(row, peers.free_port()), row.script, stdout), []
     else:
         peer = rows.Peer(row, size)
         done = run(words_for(row, peer.port), row.script, stdout)
-        messages = peer.end()
-    return (done.returncode, done.stdout, done.stderr), messages
+        frames = peer.end()
+    return (done.returncode, done.stdout, done.stderr), [list(smb.parts(frame)) for frame in frames]
 
 
 def expect(row):
     for size in row.pieces:
-        found, messages = play(row, size)
-        commands = [smb.command(data) for data in messages]
+        found, frames = play(row, size)
+        commands = [[smb.command(data) for data in messages] for messages in frames]
         if found != (row.status, row.printed, b""):
             fault(f"row {row.name} in pieces of {size}: {found} where {(row.status, row.printed)} was wanted")
         if row.sent is not None and commands != row.sent:
             fault(f"row {row.name} in pieces of {size}: the commands {commands} where {row.sent} were wanted")
         if row.words[:1] == ["run"]:
-            for text in judge(messages):
+            for text in judge([data for messages in frames for data in messages]):
                 fault(f"row {row.name} in pieces of {size}: {text}")
 
 
@@ -87,7 +88,12 @@ ROWS = os.path.join(os.path.dirname(rows.FILE), "out", "fs_rows")
 # the lines of a bad row, and the number of the line that is wrong
 BAD = [("word", 1), ("row a\nstrange", 2), ("row a\nwords ping\n\nstatus +1", 4), ("row", 1), ("row a\nrow a", 2), ("row a as b", 1),
        ("bytes b 0", 1), ("row a\ngot $b", 2), ("row a\nturns serve*x", 2), ("row a\nact 1 fly a", 2), ("row a\nhead 00", 2),
-       ("row a\npeer\ngot 00000001 00\npatch 1 1 00", 4), ("row a\nbox room 1", 2), ("row a\nquiet 1 2", 2)]
+       ("row a\npeer\ngot 00000001 00\npatch 1 1 00", 4), ("row a\nbox room 1", 2), ("row a\nquiet 1 2", 2), ("row a\ncredits 65536", 2),
+       ("row a\nserve 1*", 2), ("row a\nserve *2", 2), ("row a\nserve 1*100001", 2), ("row a\nsent 5+", 2), ("row a\nsent 5++6", 2),
+       ("row a\nstory begin fly", 2), ("row a\npeer\nreply 5 4 0\njoin 1", 4), ("row a\npeer\nreply 5 4 0\njoin 2", 4),
+       ("row a\npeer\nreply 5 4 0\nquiet\nreply 5 5 0\njoin 2", 6), ("row a\npeer\nreply 5 4 0\ngot 00000000\njoin 2", 5),
+       ("row a\nbox room 1 credits 1\nreply 5 4 0\nreply 5 5 0\njoin 2", 5),
+       ("row a\npeer\nreply 5 4 0\nreply 5 5 0\njoin 2\nreply 5 6 0\njoin 2", 7)]
 if os.path.exists(ROWS):
     for text, number in BAD:
         done = subprocess.run([ROWS], input=text.encode(), capture_output=True, timeout=60)

@@ -2,6 +2,7 @@
 
 ghost use Rattle.std.specs.Prelude.{◌≡◌, IfOk, drop};
 
+use crate::bytes::put_times;
 use anyhow::{Context, Result, bail, ensure};
 use std::alloc::Global;
 
@@ -65,15 +66,53 @@ fn with(head: Head, fields: Fields) -> Head {
     head
 }
 
-/// A frame of a header and a body: the four bytes of its length in front.
+/// A frame of a header and a body.
 fn frame(alloc: Global, head: &Head, body: &[u8]) -> Result<Vec<u8>> {
     let mut message = Vec::from_slice(alloc, head)?;
     message.extend_from_slice(body)?;
-    let len = u32::try_from(message.len()).context("a message that is too long")?;
-    ensure!(len < 0x0100_0000, "a message that is too long");
+    framed(alloc, &message)
+}
+
+/// These messages as a frame: the four bytes of its length in front.
+fn framed(alloc: Global, messages: &[u8]) -> Result<Vec<u8>> {
+    let len = u32::try_from(messages.len()).context("a frame that is too long")?;
+    ensure!(len < 0x0100_0000, "a frame that is too long");
     let mut frame = Vec::from_slice(alloc, &len.to_be_bytes())?;
-    frame.extend_from_slice(&message)?;
+    frame.extend_from_slice(messages)?;
     Ok(frame)
+}
+
+/// The messages of these frames as one frame (MS-SMB2 3.3.4.1.3): each but the last is filled with zero bytes up to a multiple of eight,
+/// and says where the next one begins.
+pub fn joined(alloc: Global, frames: &[Vec<u8>]) -> Result<Vec<u8>> {
+    let mut messages = Vec::new(alloc);
+    for (number, frame) in frames.iter().enumerate() {
+        let message = single(frame)?;
+        let next = padded(message.len());
+        let place = messages.len();
+        messages.extend_from_slice(message)?;
+        if number.saturating_add(1) < frames.len() {
+            put_times(&[0], next.saturating_sub(message.len()), &mut messages)?;
+            let next = u32::try_from(next).context("a message that is too long")?;
+            change(&mut messages, place.saturating_add(20), &next.to_le_bytes());
+        }
+    }
+    framed(alloc, &messages)
+}
+
+/// The message of a frame that has one message.
+fn single(frame: &[u8]) -> Result<&[u8]> {
+    let message = message_of(frame)?;
+    ensure!(message.len() >= 64, "a message without a header");
+    match message.get(20..24) {
+        Some([0, 0, 0, 0]) => Ok(message),
+        _ => bail!("a frame of several messages"),
+    }
+}
+
+/// The next multiple of eight.
+fn padded(len: usize) -> usize {
+    len.saturating_add(7) / 8 * 8
 }
 
 /// The message of a frame.
@@ -90,8 +129,13 @@ pub fn message_of(frame: &[u8]) -> Result<&[u8]>
 pub fn patch(frame: &mut Vec<u8>, place: usize, bytes: &[u8]) -> Result<()> {
     let end = place.saturating_add(bytes.len()).saturating_add(4);
     ensure!(end <= frame.len(), "a patch behind the end");
-    for (old, new) in frame.iter_mut().skip(4).skip(place).zip(bytes) {
+    change(frame, place.saturating_add(4), bytes);
+    Ok(())
+}
+
+/// Changes bytes from this place on.
+fn change(all: &mut Vec<u8>, place: usize, bytes: &[u8]) {
+    for (old, new) in all.iter_mut().skip(place).zip(bytes) {
         *old = *new;
     }
-    Ok(())
 }

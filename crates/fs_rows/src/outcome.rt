@@ -1,5 +1,6 @@
 //! Plays a row, and tells what came of it.
 
+use crate::frames::message_of;
 use crate::mount::mount;
 use crate::row::{Row, Side, Step, Wanted};
 use crate::says::says;
@@ -9,6 +10,7 @@ use anyhow::{Result, bail};
 use fs_top::smbfs;
 use share_box::{BoxLink, Schedule};
 use smb_base::{Bytes, U64List};
+use smb_chain::split;
 use smb_link::{
     Event, Given, GivenList, Got, Link, LinkFail, ListLink, Mark, MemClock, MemSink, MemSource,
 };
@@ -65,7 +67,7 @@ fn run_over_share(alloc: Global, row: &Row, link: &mut BoxLink) -> Result<Vec<u8
 fn use_share(alloc: Global, steps: &Vec<Step>, link: &mut BoxLink, size: usize) -> Result<Vec<u8>> {
     take_steps(alloc, steps, link, size)?;
     let mut text = Vec::new(alloc);
-    tell(alloc, link.story().as_slice(), &mut text)?;
+    tell(alloc, link.story().as_slice(), &[], &mut text)?;
     Ok(text)
 }
 
@@ -190,8 +192,8 @@ fn report(
     wanted: &Wanted,
 ) -> Result<Vec<u8>> {
     let mut text = Vec::from_slice(alloc, sink.written())?;
-    if wanted.story {
-        tell(alloc, events, &mut text)?;
+    if let Some(words) = &wanted.story {
+        tell(alloc, events, words, &mut text)?;
     }
     if wanted.status.is_some() {
         put(&mut text, format!(in alloc; "status {status}\n")?.as_str())?;
@@ -200,7 +202,7 @@ fn report(
     if wanted.sent.is_some() {
         put(&mut text, "sent")?;
         for frame in &frames {
-            put_command(alloc, command_of(frame), &mut text)?;
+            put_commands(alloc, &commands_of(alloc, frame)?, &mut text)?;
         }
         put(&mut text, "\n")?;
     }
@@ -222,10 +224,10 @@ pub fn wanted(alloc: Global, wanted: &Wanted) -> Result<Vec<u8>> {
     if let Some(status) = &wanted.status {
         put(&mut text, format!(in alloc; "status {status}\n")?.as_str())?;
     }
-    if let Some(commands) = &wanted.sent {
+    if let Some(frames) = &wanted.sent {
         put(&mut text, "sent")?;
-        for command in commands {
-            put_command(alloc, *command, &mut text)?;
+        for commands in frames {
+            put_commands(alloc, commands, &mut text)?;
         }
         put(&mut text, "\n")?;
     }
@@ -241,8 +243,13 @@ pub fn wanted(alloc: Global, wanted: &Wanted) -> Result<Vec<u8>> {
     Ok(text)
 }
 
-fn put_command(alloc: Global, command: u16, text: &mut Vec<u8>) -> Result<()> {
-    put(text, format!(in alloc; " {command}")?.as_str())
+/// A frame as the commands of its messages.
+fn put_commands(alloc: Global, commands: &[u16], text: &mut Vec<u8>) -> Result<()> {
+    for (number, command) in commands.iter().enumerate() {
+        put(text, if number == 0 { " " } else { "+" })?;
+        put(text, format!(in alloc; "{command}")?.as_str())?;
+    }
+    Ok(())
 }
 
 fn put_connects(alloc: Global, count: u64, text: &mut Vec<u8>) -> Result<()> {
@@ -259,9 +266,21 @@ fn put_frame(alloc: Global, number: u64, frame: &[u8], text: &mut Vec<u8>) -> Re
     put(text, "\n")
 }
 
-/// The command of a frame's first message; 65,535 where it is too short.
-fn command_of(frame: &[u8]) -> u16 {
-    match frame.get(16..18) {
+/// The commands of a frame's messages.
+fn commands_of(alloc: Global, frame: &[u8]) -> Result<Vec<u16>> {
+    let mut commands = Vec::new(alloc);
+    for part in split(message_of(frame)?) {
+        match part {
+            Ok(message) => commands.push(command_of(message))?,
+            Err(_) => bail!("a frame that was sent with a bad place of the next message"),
+        }
+    }
+    Ok(commands)
+}
+
+/// The command of a message; 65,535 where it is too short.
+fn command_of(message: &[u8]) -> u16 {
+    match message.get(12..14) {
         Some([low, high]) => u16::from_le_bytes([*low, *high]),
         _ => u16::MAX,
     }

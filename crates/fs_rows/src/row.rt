@@ -1,8 +1,9 @@
 //! A row: what is given, and what has to come of it.
 
 use crate::bytes::{Names, put_times};
-use crate::frames::{Fields, Head, INTERIM, REPLY, head_of, patch, reply, request};
+use crate::frames::{Fields, Head, INTERIM, REPLY, head_of, joined, patch, reply, request};
 use crate::requests::act_of;
+use crate::story::is_word;
 use crate::words::{count, cut, hex32, hex64, medium, nothing, number, small};
 use anyhow::{Result, bail, ensure};
 use share_box::{Turn, TurnList};
@@ -50,8 +51,8 @@ pub struct Wanted {
     pub text: Vec<u8>,
     /// The exit status.
     pub status: Option<u64>,
-    /// The commands of the frames that are sent.
-    pub sent: Option<Vec<u16>>,
+    /// The frames that are sent, each as the commands of its messages.
+    pub sent: Option<Vec<Vec<u16>>>,
     /// How many connects are tried.
     pub connects: Option<u64>,
     /// Frames that are sent, by their numbers from 1 on.
@@ -60,8 +61,8 @@ pub struct Wanted {
     pub marks: Vec<(u64, u64)>,
     /// Whether a mount tells its requests.
     pub requests: bool,
-    /// Whether a run tells its story.
-    pub story: bool,
+    /// The words of the events of a run that are told, where its story is; all events are told where there is no word.
+    pub story: Option<Vec<String>>,
 }
 
 /// What a row says.
@@ -119,7 +120,7 @@ impl Row {
                 frames: Vec::new(alloc),
                 marks: Vec::new(alloc),
                 requests: false,
-                story: false,
+                story: None,
             },
             head: [0; 64],
         })
@@ -258,7 +259,7 @@ impl Row {
                     self.add_turns(turn)?;
                 }
             }
-            "serve" => self.turns.push(Turn::Serve(medium(rest)?))?,
+            "serve" => self.add_serves(rest)?,
             "act" => self.turns.push(act_of(self.alloc, rest)?)?,
             _ => return Ok(false),
         }
@@ -267,13 +268,19 @@ impl Row {
 
     /// The turn with this name, or of `NAME*N` N of them.
     fn add_turns(&mut self, word: &str) -> Result<()> {
-        let (name, times) = match word.split_once('*') {
-            Some((name, times)) => (name, count(times)?),
-            None => (word, 1),
-        };
-        ensure!(times <= 100_000, "{times} turns are too many");
+        let (name, times) = repeated(word)?;
         for _ in 0..times {
             self.turns.push(turn_of(name)?)?;
+        }
+        Ok(())
+    }
+
+    /// The turn that serves the frame with this number, or of `NUMBER*N` N of them.
+    fn add_serves(&mut self, word: &str) -> Result<()> {
+        let (number, times) = repeated(word)?;
+        let number = medium(number)?;
+        for _ in 0..times {
+            self.turns.push(Turn::Serve(number))?;
         }
         Ok(())
     }
@@ -282,6 +289,7 @@ impl Row {
     fn happens(&mut self, names: &Names, word: &str, rest: &str) -> Result<bool> {
         match word {
             "head" => self.head = head_of(&names.bytes(self.alloc, rest)?)?,
+            "credits" => self.head[14..16].copy_from_slice(&small(rest)?.to_le_bytes()),
             "connect" => self.step(Step::Connect, rest)?,
             "receive" => self.step(Step::Receive, rest)?,
             "over" => self.step(Step::Over, rest)?,
@@ -294,6 +302,7 @@ impl Row {
                 self.steps.push(Step::Send(frame))?;
             }
             "patch" => self.patch(names, rest)?,
+            "join" => self.join(rest)?,
             _ => return self.comes(names, word, rest),
         }
         Ok(true)
@@ -437,6 +446,28 @@ impl Row {
         bail!("there is no {which}th frame")
     }
 
+    /// Makes one frame of the last frames that come, so many of them.
+    fn join(&mut self, rest: &str) -> Result<()> {
+        let many = count(rest)?;
+        ensure!(2 <= many, "{many} frames are not joined");
+        let mut frames = Vec::new(self.alloc);
+        for _ in 0..many {
+            frames.push(self.last_frame()?)?;
+        }
+        frames.reverse();
+        let frame = joined(self.alloc, &frames)?;
+        self.steps.push(Step::Got(frame))?;
+        Ok(())
+    }
+
+    /// Takes back the last frame that comes.
+    fn last_frame(&mut self) -> Result<Vec<u8>> {
+        match self.steps.pop() {
+            Some(Step::Got(frame)) => Ok(frame),
+            _ => bail!("there are not so many frames right before it"),
+        }
+    }
+
     /// Takes a line that says what is wanted.
     pub fn wants(&mut self, names: &Names, line: &str) -> Result<()> {
         let (word, rest) = cut(line);
@@ -447,7 +478,7 @@ impl Row {
             }
             "status" => self.wanted.status = Some(number(rest)?),
             "connects" => self.wanted.connects = Some(number(rest)?),
-            "sent" => self.wanted.sent = Some(commands(self.alloc, rest)?),
+            "sent" => self.wanted.sent = Some(frames_of(self.alloc, rest)?),
             "frame" => {
                 let (which, bytes) = cut(rest);
                 let frame = names.bytes(self.alloc, bytes)?;
@@ -457,10 +488,7 @@ impl Row {
                 let (line, frames) = cut(rest);
                 self.wanted.marks.push((number(line)?, number(frames)?))?;
             }
-            "story" => {
-                nothing(rest)?;
-                self.wanted.story = true;
-            }
+            "story" => self.wanted.story = Some(told(self.alloc, rest)?),
             "request" => self.wants_request(names, rest)?,
             _ => bail!("no row has the word {word:?}"),
         }
@@ -522,11 +550,40 @@ fn numbers(alloc: Global, rest: &str) -> Result<U64List> {
     Ok(U64List::of(alloc, &list)?)
 }
 
-/// Numbers of commands.
-fn commands(alloc: Global, rest: &str) -> Result<Vec<u16>> {
+/// Frames, each as the commands of its messages.
+fn frames_of(alloc: Global, rest: &str) -> Result<Vec<Vec<u16>>> {
     let mut list = Vec::new(alloc);
     for word in rest.split_whitespace() {
-        list.push(small(word)?)?;
+        list.push(commands(alloc, word)?)?;
     }
     Ok(list)
+}
+
+/// The numbers of the commands of `A+B+..`.
+fn commands(alloc: Global, word: &str) -> Result<Vec<u16>> {
+    let mut list = Vec::new(alloc);
+    for number in word.split('+') {
+        list.push(small(number)?)?;
+    }
+    Ok(list)
+}
+
+/// The words of the events that are told.
+fn told(alloc: Global, rest: &str) -> Result<Vec<String>> {
+    let mut list = Vec::new(alloc);
+    for word in rest.split_whitespace() {
+        ensure!(is_word(word), "no event has the word {word:?}");
+        list.push(String::from_str(alloc, word)?)?;
+    }
+    Ok(list)
+}
+
+/// A word and how often it stands: `WORD`, or `WORD*N`.
+fn repeated(word: &str) -> Result<(&str, usize)> {
+    let (word, times) = match word.split_once('*') {
+        Some((word, times)) => (word, count(times)?),
+        None => (word, 1),
+    };
+    ensure!(times <= 100_000, "{times} turns are too many");
+    Ok((word, times))
 }

@@ -4,7 +4,7 @@ use crate::frames::message_of;
 use crate::row::Step;
 use crate::story::put;
 use anyhow::{Result, bail};
-use fs_asks::read_reply;
+use fs_core::read_reply;
 use smb_head::read_head;
 use std::alloc::Global;
 

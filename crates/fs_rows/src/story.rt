@@ -6,10 +6,44 @@ use anyhow::Result;
 use smb_link::{Event, Mark};
 use std::alloc::Global;
 
-/// Adds what happened, one line for each event. Bytes that came in several pieces are one event.
-pub fn tell(alloc: Global, events: &[Event], out: &mut Vec<u8>) -> Result<()> {
+/// The words of events.
+const WORDS: [&str; 16] = [
+    "begin",
+    "for",
+    "answer",
+    "now",
+    "over",
+    "sent",
+    "got",
+    "quiet",
+    "joined",
+    "notjoined",
+    "cut",
+    "took",
+    "pend",
+    "act",
+    "break",
+    "dropped",
+];
+
+/// Whether an event has this word.
+pub fn is_word(word: &str) -> bool {
+    for other in &WORDS {
+        if *other == word {
+            return true;
+        }
+    }
+    false
+}
+
+/// Adds what happened, one line for each event that has one of these words, or for each event where there is none. Bytes that came in
+/// several pieces, with nothing told in between, are one event.
+pub fn tell(alloc: Global, events: &[Event], words: &[String], out: &mut Vec<u8>) -> Result<()> {
     let mut within = false;
     for event in events {
+        if !is_told(event, words) {
+            continue;
+        }
         if let Event::Got(bytes) = event {
             if !within {
                 put(out, "got ")?;
@@ -29,6 +63,45 @@ pub fn tell(alloc: Global, events: &[Event], out: &mut Vec<u8>) -> Result<()> {
         put(out, "\n")?;
     }
     Ok(())
+}
+
+/// Whether an event is told where these words are asked for.
+fn is_told(event: &Event, words: &[String]) -> bool {
+    for word in words {
+        if word.as_str() == word_of(event) {
+            return true;
+        }
+    }
+    words.is_empty()
+}
+
+/// The word of an event.
+fn word_of(event: &Event) -> &'static str {
+    match event {
+        Event::Marked(mark) => word_of_mark(mark),
+        Event::Sent(_) => "sent",
+        Event::Got(_) => "got",
+        Event::Quiet => "quiet",
+        Event::Joined => "joined",
+        Event::NotJoined => "notjoined",
+        Event::Cut => "cut",
+        Event::Took(_) => "took",
+        Event::Pend(_) => "pend",
+        Event::Act(_, _, _) => "act",
+        Event::Break(_, _) => "break",
+        Event::Dropped(_) => "dropped",
+    }
+}
+
+/// The word of a mark.
+fn word_of_mark(mark: &Mark) -> &'static str {
+    match mark {
+        Mark::Begin(_, _, _) => "begin",
+        Mark::For(_, _, _) => "for",
+        Mark::Answer(_, _) => "answer",
+        Mark::Now(_) => "now",
+        Mark::End => "over",
+    }
 }
 
 /// Adds a text.
