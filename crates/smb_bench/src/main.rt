@@ -1,12 +1,15 @@
-//! Kernels whose time matters, measured. Without a word it runs each over one MiB, or a thousand requests, and prints what it did, and
-//! takes a million frames that no server sends; with `times MIB` it runs each over so many MiB (1 to 1,024), or thousands of requests, and
-//! prints how long it took, beside a plain copy of the same bytes where bytes are moved.
+//! Kernels whose time matters, measured. Without a word it runs each over one MiB, or a thousand requests or calls, and prints what it did,
+//! and takes a million frames that no server sends; with `times MIB` it runs each over so many MiB (1 to 1,024), or thousands of requests
+//! or calls, and calls ten times as many too, and prints how long it took, beside a plain copy of the same bytes where bytes are moved.
 #![tactic(auto)]
 
+mod client;
 mod frames;
+mod replies;
 mod requests;
 
 use anyhow::{Context, Result, ensure};
+use client::{Client, Counts};
 use frames::{copied, stream_of, through_frames};
 use requests::{echoing, exchanged, hostile};
 use std::env;
@@ -23,6 +26,9 @@ const CUTS: [(usize, usize); 4] = [
 
 // How many requests are in flight.
 const IN_FLIGHT: [u16; 4] = [1, 16, 256, 4_096];
+
+// In how many lanes the calls of a client run.
+const LANES: [u8; 3] = [1, 4, 16];
 
 // How many frames that no server sends are taken, and the number that they are drawn from.
 const HOSTILE: u32 = 1_000_000;
@@ -63,6 +69,9 @@ fn counts(rt: &(impl Print + AllocGlobal)) -> Result<()> {
         let count = exchanged(rt.alloc(), &mut mux, 1_000)?;
         println!(rt; "{many} requests in flight: {count} more sent and answered")?;
     }
+    for lanes in LANES {
+        print_calls(rt, lanes, calls(rt, lanes, 1_000)?)?;
+    }
     let answers = hostile(rt.alloc(), SEED, HOSTILE)?;
     ensure!(
         0 < answers.taken && 0 < answers.malformed && 0 < answers.strangers,
@@ -100,7 +109,54 @@ fn times(rt: &(impl Print + Clock + AllocGlobal), mib: u32) -> Result<()> {
             ours.saturating_mul(1000) / u128::from(count.max(1))
         )?;
     }
+    for lanes in LANES {
+        time_calls(rt, lanes, mib * 1_000)?;
+        time_calls(rt, lanes, mib * 10_000)?;
+    }
     Ok(())
+}
+
+// Mounts a share and runs so many calls of a client in so many lanes: what it did in the calls.
+fn calls(rt: &impl AllocGlobal, lanes: u8, many: u32) -> Result<Counts> {
+    let mut client = Client::mounted(rt.alloc())?;
+    client.run(lanes, many)
+}
+
+// The same, and how many microseconds all took.
+fn timed(rt: &(impl Clock + AllocGlobal), lanes: u8, many: u32) -> Result<(Counts, u128)> {
+    let start = Instant::now(rt)?;
+    let done = calls(rt, lanes, many)?;
+    Ok((done, start.elapsed(rt)?.as_micros()))
+}
+
+// The same, printed.
+fn time_calls(rt: &(impl Print + Clock + AllocGlobal), lanes: u8, many: u32) -> Result<()> {
+    let (done, micros) = timed(rt, lanes, many)?;
+    print_calls(rt, lanes, done)?;
+    print_pace(rt, done, micros)
+}
+
+// Prints what a client did in so many lanes.
+fn print_calls(rt: &impl Print, lanes: u8, done: Counts) -> Result<()> {
+    let (events, begun, answered) = (done.events, done.begun, done.answered);
+    println!(rt; "stats in {lanes} lanes: {begun} begun, {answered} answered, {events} events")?;
+    Ok(())
+}
+
+// Prints how long that took.
+fn print_pace(rt: &impl Print, done: Counts, micros: u128) -> Result<()> {
+    let each = hundredths(micros, u128::from(done.answered));
+    let rate = a_second(done.events, micros);
+    let millis = micros / 1000;
+    println!(rt;
+        "  {millis} ms, {rate} events a second, {each} hundredths of a microsecond a stat"
+    )?;
+    Ok(())
+}
+
+// How many events a second those are that took so many microseconds.
+fn a_second(events: u64, micros: u128) -> u128 {
+    u128::from(events).saturating_mul(1_000_000) / micros.max(1)
 }
 
 fn hundredths(a: u128, b: u128) -> u128 {

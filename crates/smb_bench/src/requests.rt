@@ -114,7 +114,8 @@ impl Draws {
     }
 }
 
-fn set(bytes: &mut Vec<u8>, at: usize, byte: u8) {
+/// Writes a byte over the one at a place, where there is one.
+pub fn set(bytes: &mut [u8], at: usize, byte: u8) {
     if let Some(place) = bytes.get_mut(at) {
         *place = byte;
     }
@@ -139,7 +140,7 @@ fn hostile_frame(alloc: Global, draws: &mut Draws) -> Result<Vec<u8>> {
 }
 
 // The fields of a reply that are looked at.
-fn begin_reply(frame: &mut Vec<u8>, draws: &mut Draws) {
+fn begin_reply(frame: &mut [u8], draws: &mut Draws) {
     let command = draws.below(u32::from(COMMANDS));
     for (at, byte) in [(0, 0xFE), (1, 0x53), (2, 0x4D), (3, 0x42), (4, 64), (16, 1)] {
         set(frame, at, byte);
