@@ -8,7 +8,7 @@ import peers
 
 CHECK, CRATES = "definitions", pathlib.Path("crates")
 LISTED = [line.split(":")[0].split()[0] for line in open("crates.txt") if line.strip() and not line.startswith("#")]
-IMPORT = re.compile(r"^ghost use Rattle\.(\w+)\.specs\.(\w+)\b", re.M)
+IMPORT = re.compile(r"^ghost use Rattle\.(\w+)\.specs((?:\.\w+)+)\.\{", re.M)
 
 
 def heading(path):
@@ -19,6 +19,16 @@ def heading(path):
             break
         said.append(line[2:].strip())
     return " ".join(said)
+
+
+def module(crate, path):
+    """The name of a file's module, as an import has it, with a dot before each part."""
+    return "".join(f".{part}" for part in path.relative_to(CRATES / crate / "specs").with_suffix("").parts)
+
+
+def is_list(path):
+    """Whether a file only lists others: Lib, and the one beside a folder."""
+    return all(line.startswith("pub mod ") for line in path.read_text().splitlines() if line)
 
 
 def citations():
@@ -34,15 +44,15 @@ def citations():
 
 words, cited, faults, count = sys.argv[1:], citations(), 0, 0
 for crate in LISTED:
-    for path in sorted((CRATES / crate / "specs").glob("*.antt")):
-        if path.name == "Lib.antt":
+    for path in sorted((CRATES / crate / "specs").rglob("*.antt")):
+        if is_list(path):
             continue
         count += 1
-        said, by = heading(path), ", ".join(cited[crate, path.stem]) or "other definitions"
+        said, by = heading(path), ", ".join(cited[crate, module(crate, path)]) or "other definitions"
         if not said.endswith("."):
             faults += 1
             peers.say(CHECK, f"{path} does not begin with what it states")
-        line = f"{crate}/{path.stem}: {said} Cited by {by}."
+        line = f"{crate}/{module(crate, path)[1:].replace('.', '/')}: {said} Cited by {by}."
         if all(word in line for word in words):
             print(line)
 peers.say(CHECK, "failed" if faults else f"{count} files of definitions, each with its first line")
