@@ -9,6 +9,8 @@ mod base;
 #[cfg(test)]
 mod calls;
 #[cfg(test)]
+mod handles;
+#[cfg(test)]
 mod lines;
 #[cfg(test)]
 mod mux;
