@@ -1,6 +1,8 @@
 //! The lists of a share that no row of the programs fills.
 
-use share_spec::{BreakNeeds, GrantList, Lock, LockList, Owed, OwedList, ShareName, ShareNameList};
+use share_state::{
+    BreakNeeds, GrantList, Lock, LockList, Owed, OwedList, ShareName, ShareNameList,
+};
 use smb_base::{Key, Units};
 use std::process::Abort;
 

@@ -23,8 +23,8 @@ use Rattle.smb_body_b.specs.Contexts.{read_of}
 use Rattle.smb_body_b.specs.Create.{CreateReplyValue, create_reply_of}
 use Rattle.smb_body_c.specs.Directory.{buffer_reply_of}
 use Rattle.smb_body_c.specs.Error.{error_reply_of}
-use Rattle.share_spec.specs.declared.request.RepBody.{RepBody}
-use Rattle.share_spec.specs.declared.request.RepBody.TheVariants as body
+use Rattle.share_state.specs.declared.request.RepBody.{RepBody}
+use Rattle.share_state.specs.declared.request.RepBody.TheVariants as body
 use Rattle.smb_mux.specs.Bodies.{first_fault, contexts_of, contexts_fault, create_fault, buffer_fault, negotiate_fault, session_fault, is_done, reply_fault}
 use Rattle.fs_plain.specs.Masked.{Untold, Nothing, NumberAndMark, Durability}
 use Rattle.fs_plain.specs.Replies.{is_error, opened_with, opened_in, closed_in, info_in, info_of, is_success, reply_of, reply_by_status, has_aside_body, is_aside_by_status}

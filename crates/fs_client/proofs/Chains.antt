@@ -6,15 +6,15 @@ use Rattle.std.proofs.lemmas.Bool.Decides.{nat_tests}
 use Rattle.smb_base.specs.declared.names.Fid.{Fid}
 use Rattle.smb_base.specs.declared.names.Mid.{Mid}
 use Rattle.smb_base.specs.declared.names.Status.{Status}
-use Rattle.share_spec.specs.declared.connection.LastCreate.TheVariants as last
-use Rattle.share_spec.specs.declared.connection.Sent.{Sent}
-use Rattle.share_spec.specs.declared.request.Rep.{Rep}
-use Rattle.share_spec.specs.declared.request.RepBody.{RepBody}
-use Rattle.share_spec.specs.declared.request.RepBody.TheVariants as body
-use Rattle.share_spec.specs.declared.request.Req.{Req}
-use Rattle.share_spec.specs.PlainShare.{shown}
-use Rattle.share_spec.specs.Reply.{map_fid}
-use Rattle.share_spec.specs.Sent.{behind_create}
+use Rattle.share_state.specs.declared.connection.LastCreate.TheVariants as last
+use Rattle.share_state.specs.declared.connection.Sent.{Sent}
+use Rattle.share_state.specs.declared.request.Rep.{Rep}
+use Rattle.share_state.specs.declared.request.RepBody.{RepBody}
+use Rattle.share_state.specs.declared.request.RepBody.TheVariants as body
+use Rattle.share_state.specs.declared.request.Req.{Req}
+use Rattle.share_state.specs.PlainShare.{shown}
+use Rattle.share_state.specs.Reply.{map_fid}
+use Rattle.share_state.specs.Sent.{behind_create}
 use Rattle.smb_link.specs.Program.{File, Wish, Program, Known, Ask, settled}
 use Rattle.fs_plain.specs.Paired.{open_given}
 use Rattle.fs_plain.specs.Masked.{Untold, untold}

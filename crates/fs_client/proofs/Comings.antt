@@ -4,7 +4,7 @@ use Rattle.std.proofs.Common.{◌≡◌, [], ◌∷◌, ◌++◌, refl, List, ma
 use Rattle.std.specs.Prelude.{codes, take, drop, set, length}
 use Rattle.std.specs.Str.{chars}
 use Rattle.fs_types.specs.declared.call.Call.TheVariants as call
-use Rattle.share_spec.specs.Names.{components}
+use Rattle.share_state.specs.Names.{components}
 use Rattle.smb_link.specs.Program.{Program, Say, settled}
 use Rattle.smb_link.specs.declared.event.Event.{Event}
 use Rattle.smb_link.specs.declared.event.Event.TheVariants as event

@@ -19,10 +19,10 @@ use Rattle.smb_body_c.specs.declared.info.QueryInfoRequest.{QueryInfoRequest}
 use Rattle.smb_body_c.specs.Info.{query_info_request_of}
 use Rattle.smb_body_b.specs.declared.contexts.ContextSet.{ContextSet}
 use Rattle.smb_body_b.specs.Contexts.{read_of}
-use Rattle.share_spec.specs.declared.request.Req.{Req}
-use Rattle.share_spec.specs.declared.request.Req.TheVariants as req
-use Rattle.share_spec.specs.Built.{is_built}
-use Rattle.share_spec.specs.State.{has}
+use Rattle.share_state.specs.declared.request.Req.{Req}
+use Rattle.share_state.specs.declared.request.Req.TheVariants as req
+use Rattle.share_state.specs.Built.{is_built}
+use Rattle.share_state.specs.State.{has}
 use Rattle.fs_plain.specs.Wire.{units_in}
 use Rattle.fs_plain.specs.Requests.{WireRequest, wire_request, share_request, asked_lease, create_with, create_asked, close_asked, is_query, query_asked, is_aside, by_command, asked_with}
 use Rattle.fs_plain.specs.Replies.{command_of}

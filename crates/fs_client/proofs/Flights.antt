@@ -6,11 +6,11 @@ use Rattle.std.proofs.lemmas.Bool.{false≢true}
 use Rattle.std.proofs.lemmas.Bool.Decides.{eqb_tells, nat_tests}
 use Rattle.smb_base.specs.declared.names.Fid.{Fid}
 use Rattle.smb_base.specs.declared.names.Mid.{Mid}
-use Rattle.share_spec.specs.declared.connection.LastCreate.{LastCreate}
-use Rattle.share_spec.specs.declared.connection.Sent.{Sent}
-use Rattle.share_spec.specs.declared.request.Rep.{Rep}
-use Rattle.share_spec.specs.PlainShare.{shown}
-use Rattle.share_spec.specs.Sent.{behind_create, sent_but, sent_with}
+use Rattle.share_state.specs.declared.connection.LastCreate.{LastCreate}
+use Rattle.share_state.specs.declared.connection.Sent.{Sent}
+use Rattle.share_state.specs.declared.request.Rep.{Rep}
+use Rattle.share_state.specs.PlainShare.{shown}
+use Rattle.share_state.specs.Sent.{behind_create, sent_but, sent_with}
 use Rattle.smb_link.specs.Program.{File, Program, Known, Ask, Look, Say, settled}
 use Rattle.fs_plain.specs.Requests.{WireRequest, wire_request}
 use Rattle.fs_plain.specs.World.{is_creating, refusal_before, came_to, is_first_of_frame}

@@ -19,7 +19,7 @@ use Rattle.smb_credit.specs.Window.{Ids, no_request, least, cost, after_use, up_
 use Rattle.smb_credit.proofs.WindowLaws.{after_use-up_to, granted_more-up_to}
 use Rattle.smb_mux.specs.Sending.{costs, ids_after, head_for, message_for, placed, flights_of}
 use Rattle.smb_mux.specs.InFlight as mux
-use Rattle.share_spec.specs.declared.connection.Sent.{Sent}
+use Rattle.share_state.specs.declared.connection.Sent.{Sent}
 use Rattle.smb_link.specs.declared.event.Event.{Event}
 use Rattle.smb_link.specs.declared.event.Event.TheVariants as event
 use Rattle.fs_plain.specs.Replies.{command_of}

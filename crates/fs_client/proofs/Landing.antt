@@ -6,12 +6,12 @@ use Rattle.std.proofs.lemmas.Bool.{false≢true}
 use Rattle.std.proofs.lemmas.Bool.Decides.{eqb_tells}
 use Rattle.smb_base.specs.declared.names.Mid.{Mid}
 use Rattle.smb_chain.specs.declared.parts.BadNext.{BadNext}
-use Rattle.share_spec.specs.declared.connection.Sent.{Sent}
-use Rattle.share_spec.specs.declared.request.Rep.{Rep}
-use Rattle.share_spec.specs.declared.request.RepBody.TheVariants as body
-use Rattle.share_spec.specs.PlainShare.{shown}
-use Rattle.share_spec.specs.Reply.{of_status}
-use Rattle.share_spec.specs.Sent.{behind_create, sent_but, sent_with}
+use Rattle.share_state.specs.declared.connection.Sent.{Sent}
+use Rattle.share_state.specs.declared.request.Rep.{Rep}
+use Rattle.share_state.specs.declared.request.RepBody.TheVariants as body
+use Rattle.share_state.specs.PlainShare.{shown}
+use Rattle.share_state.specs.Reply.{of_status}
+use Rattle.share_state.specs.Sent.{behind_create, sent_but, sent_with}
 use Rattle.smb_link.specs.Program.{Program, Known, Ask, Look, Say, settled, replied}
 use Rattle.fs_plain.specs.Requests.{WireRequest, wire_request}
 use Rattle.fs_plain.specs.Replies.{reply_in, is_aside_reply}

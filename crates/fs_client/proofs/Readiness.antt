@@ -23,12 +23,12 @@ use Rattle.smb_body_c.specs.Info.{query_info_request_of}
 use Rattle.smb_mount.specs.declared.facts.Facts.{Facts}
 use Rattle.smb_mount.specs.Requests.{charge_of, negotiate, session_setup, tree_connect}
 use Rattle.smb_mount.specs.Tokens.{negotiate_token, authenticate_token}
-use Rattle.share_spec.specs.declared.connection.LastCreate.TheVariants as last
-use Rattle.share_spec.specs.declared.connection.Sent.{Sent}
-use Rattle.share_spec.specs.declared.request.Rep.{Rep}
-use Rattle.share_spec.specs.declared.request.RepBody.TheVariants as body
-use Rattle.share_spec.specs.PlainShare.{shown}
-use Rattle.share_spec.specs.Sent.{behind_create}
+use Rattle.share_state.specs.declared.connection.LastCreate.TheVariants as last
+use Rattle.share_state.specs.declared.connection.Sent.{Sent}
+use Rattle.share_state.specs.declared.request.Rep.{Rep}
+use Rattle.share_state.specs.declared.request.RepBody.TheVariants as body
+use Rattle.share_state.specs.PlainShare.{shown}
+use Rattle.share_state.specs.Sent.{behind_create}
 use Rattle.smb_link.specs.declared.event.Event.{Event}
 use Rattle.smb_link.specs.declared.event.Event.TheVariants as event
 use Rattle.smb_link.specs.Program.{File, Wish, Program, Known, Ask, Look, Say, settled}

@@ -5,11 +5,11 @@ use Rattle.std.specs.List.{AllByRecursion}
 use Rattle.std.proofs.lemmas.Bool.Decides.{nat_tests}
 use Rattle.smb_base.specs.declared.names.Mid.{Mid}
 use Rattle.smb_chain.specs.declared.parts.BadNext.{BadNext}
-use Rattle.share_spec.specs.declared.connection.Sent.{Sent}
-use Rattle.share_spec.specs.declared.request.Rep.{Rep}
+use Rattle.share_state.specs.declared.connection.Sent.{Sent}
+use Rattle.share_state.specs.declared.request.Rep.{Rep}
 use Rattle.fs_plain.specs.Owners.{mids_among, mids_in, from, Owner, owner_of}
 use Rattle.fs_plain.specs.Requests.{WireRequest, wire_request}
-use Rattle.share_spec.specs.Sent.{sent_with}
+use Rattle.share_state.specs.Sent.{sent_with}
 use Rattle.fs_plain.specs.World.{requests_in}
 use Rattle.fs_plain.specs.Told.{Announcement, owned_in, is_outside}
 use Rattle.fs_client.specs.Item.{Item, item_with, on_item, flown}

@@ -2,12 +2,12 @@
 use Rattle.std.proofs.Common.{◌≡◌, refl, ap, ℕ, ◌==◌, Bool, true, false, if◌then◌else◌, List, [], ◌∷◌, ◌++◌, None}
 use Rattle.smb_base.specs.declared.names.Fid.{Fid}
 use Rattle.fs_types.specs.declared.options.Options.{Options}
-use Rattle.share_spec.specs.declared.request.Rep.{Rep}
-use Rattle.share_spec.specs.declared.request.RepBody.{RepBody}
-use Rattle.share_spec.specs.declared.request.RepBody.TheVariants as body
-use Rattle.share_spec.specs.declared.request.Req.TheVariants as req
-use Rattle.share_spec.specs.PlainShare.{shown}
-use Rattle.share_spec.specs.Reply.{map_fid}
+use Rattle.share_state.specs.declared.request.Rep.{Rep}
+use Rattle.share_state.specs.declared.request.RepBody.{RepBody}
+use Rattle.share_state.specs.declared.request.RepBody.TheVariants as body
+use Rattle.share_state.specs.declared.request.Req.TheVariants as req
+use Rattle.share_state.specs.PlainShare.{shown}
+use Rattle.share_state.specs.Reply.{map_fid}
 use Rattle.smb_link.specs.Program.{Own, Open as Opening, Query, Close, Program, Known, Ask, Say, settled, of_refusal}
 use Rattle.smb_link.specs.Stat.{stat_answer, stat_once_open}
 use Rattle.fs_client.specs.Item.{Item, Placed}

@@ -6,9 +6,9 @@ use Rattle.std.specs.List.{AllByRecursion}
 use Rattle.std.proofs.lemmas.Bool.{false≢true}
 use Rattle.std.proofs.lemmas.Bool.Decides.{eqb_tells}
 use Rattle.smb_base.specs.declared.names.Mid.{Mid}
-use Rattle.share_spec.specs.declared.connection.Sent.{Sent}
-use Rattle.share_spec.specs.declared.request.Rep.{Rep}
-use Rattle.share_spec.specs.Sent.{sent_but, sent_with}
+use Rattle.share_state.specs.declared.connection.Sent.{Sent}
+use Rattle.share_state.specs.declared.request.Rep.{Rep}
+use Rattle.share_state.specs.Sent.{sent_but, sent_with}
 use Rattle.smb_link.specs.Program.{Known}
 use Rattle.fs_plain.specs.Owners.{Owner, owner_of}
 use Rattle.fs_plain.specs.Told.{Told, Announcement}

@@ -10,8 +10,8 @@ use Rattle.fs_types.specs.declared.answer.Answer.{Answer}
 use Rattle.fs_types.specs.declared.answer.Answer.TheVariants as answer
 use Rattle.fs_types.specs.declared.call.Call.TheVariants as call
 use Rattle.fs_types.specs.declared.options.Options.{Options}
-use Rattle.share_spec.specs.declared.connection.Sent.{Sent}
-use Rattle.share_spec.specs.declared.request.Req.TheVariants as req
+use Rattle.share_state.specs.declared.connection.Sent.{Sent}
+use Rattle.share_state.specs.declared.request.Req.TheVariants as req
 use Rattle.smb_link.specs.Calls.{program_of}
 use Rattle.smb_link.specs.Program.{Known}
 use Rattle.smb_link.specs.declared.event.Event.{Event}

@@ -9,7 +9,7 @@ use Rattle.smb_head.specs.Stream.{first_of, frames_in, rest_in}
 use Rattle.smb_chain.specs.declared.parts.BadNext.{BadNext}
 use Rattle.smb_credit.specs.Window.{cost, no_request}
 use Rattle.fs_types.specs.declared.call.Call.{Call}
-use Rattle.share_spec.specs.declared.connection.Sent.{Sent}
+use Rattle.share_state.specs.declared.connection.Sent.{Sent}
 use Rattle.smb_link.specs.declared.event.Event.{Event}
 use Rattle.smb_link.specs.declared.event.Event.TheVariants as event
 use Rattle.smb_link.specs.declared.mark.Mark.{Mark}

@@ -1,10 +1,10 @@
 -- What a request in flight asks for, and what its reply can be and leaves of the others.
 use Rattle.std.specs.Prelude.{◌≡◌, ◌==◌, Bool, false, ◌&&◌, if◌then◌else◌, List, map, Option, Some, None, is_some, is_none}
-use Rattle.share_spec.specs.declared.connection.LastCreate.{LastCreate}
-use Rattle.share_spec.specs.declared.connection.Sent.{Sent}
-use Rattle.share_spec.specs.declared.request.Rep.{Rep}
-use Rattle.share_spec.specs.declared.request.Req.{Req}
-use Rattle.share_spec.specs.Sent.{behind_create, sent_but}
+use Rattle.share_state.specs.declared.connection.LastCreate.{LastCreate}
+use Rattle.share_state.specs.declared.connection.Sent.{Sent}
+use Rattle.share_state.specs.declared.request.Rep.{Rep}
+use Rattle.share_state.specs.declared.request.Req.{Req}
+use Rattle.share_state.specs.Sent.{behind_create, sent_but}
 use Rattle.fs_plain.specs.Masked.{Untold, untold}
 use Rattle.fs_plain.specs.Requests.{WireRequest, wire_request}
 use Rattle.fs_plain.specs.World.{resolved, refused_before, is_creating, came_to}

@@ -4,9 +4,9 @@ use Rattle.std.specs.Prelude.{◌≡◌, ◌==◌, true, false, MatchBool, List,
 use Rattle.std.specs.List.{AllByRecursion}
 use Rattle.smb_base.specs.declared.names.Fid.{Fid}
 use Rattle.smb_base.specs.declared.names.Mid.{Mid}
-use Rattle.share_spec.specs.declared.connection.Sent.{Sent}
-use Rattle.share_spec.specs.declared.request.Rep.{Rep}
-use Rattle.share_spec.specs.PlainShare.{shown}
+use Rattle.share_state.specs.declared.connection.Sent.{Sent}
+use Rattle.share_state.specs.declared.request.Rep.{Rep}
+use Rattle.share_state.specs.PlainShare.{shown}
 use Rattle.smb_link.specs.Program.{File, Program, Known, Ask, Look, Say, settled}
 use Rattle.fs_plain.specs.Wishes.{wish_of}
 use Rattle.fs_client.specs.Item.{Item, Placed, fids_after, fid_named, file_id}

@@ -4,11 +4,11 @@ use Rattle.smb_base.specs.declared.names.Fid.{Fid}
 use Rattle.smb_base.specs.declared.names.Key.{Key}
 use Rattle.smb_base.specs.declared.names.Mid.{Mid}
 use Rattle.fs_types.specs.declared.call.Call.{Call}
-use Rattle.share_spec.specs.declared.request.Rep.{Rep}
-use Rattle.share_spec.specs.declared.request.RepBody.{RepBody}
-use Rattle.share_spec.specs.declared.request.RepBody.TheVariants as body
-use Rattle.share_spec.specs.Reply.{fid_of}
-use Rattle.share_spec.specs.PlainShare.{shown}
+use Rattle.share_state.specs.declared.request.Rep.{Rep}
+use Rattle.share_state.specs.declared.request.RepBody.{RepBody}
+use Rattle.share_state.specs.declared.request.RepBody.TheVariants as body
+use Rattle.share_state.specs.Reply.{fid_of}
+use Rattle.share_state.specs.PlainShare.{shown}
 use Rattle.smb_link.specs.Program.{File, Own, Named, Program, Known, replied}
 
 -- a call: its line, its lane, what it is, whether a frame was announced for it, whether a connection was lost while it ran, what is left

@@ -6,7 +6,7 @@ use Rattle.smb_head.specs.declared.command.TheConstants.{TREE_DISCONNECT, LOGOFF
 use Rattle.smb_head.specs.declared.request.Request.{Request}
 use Rattle.smb_mount.specs.declared.facts.Facts.{Facts}
 use Rattle.smb_mount.specs.Requests.{tree_disconnect, logoff}
-use Rattle.share_spec.specs.declared.connection.Sent.{Sent}
+use Rattle.share_state.specs.declared.connection.Sent.{Sent}
 use Rattle.fs_types.specs.declared.answer.Answer.{Answer}
 use Rattle.fs_types.specs.declared.call.Call.{Call}
 use Rattle.fs_types.specs.declared.call.Call.TheVariants as call

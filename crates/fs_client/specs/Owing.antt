@@ -1,13 +1,13 @@
 -- The client once it has looked at all that a share owes: what is coming is no list of its own, but the view after the looks to come.
 use Rattle.std.specs.Prelude.{◌≡◌, ℕ, true, IsSomeAnd, List, Option, [], ◌∷◌, None, Some}
-use Rattle.share_spec.specs.declared.connection.Owed.{Owed}
-use Rattle.share_spec.specs.declared.connection.Owed.TheVariants as owed
-use Rattle.share_spec.specs.declared.connection.Sent.{Sent}
-use Rattle.share_spec.specs.declared.request.Rep.{Rep}
+use Rattle.share_state.specs.declared.connection.Owed.{Owed}
+use Rattle.share_state.specs.declared.connection.Owed.TheVariants as owed
+use Rattle.share_state.specs.declared.connection.Sent.{Sent}
+use Rattle.share_state.specs.declared.request.Rep.{Rep}
 use Rattle.fs_plain.specs.Masked.{masked}
 use Rattle.fs_plain.specs.Requests.{WireRequest, wire_request}
 use Rattle.fs_plain.specs.Owners.{owner_of}
-use Rattle.share_spec.specs.Sent.{sent_with}
+use Rattle.share_state.specs.Sent.{sent_with}
 use Rattle.fs_plain.specs.World.{is_first_of_frame}
 use Rattle.fs_client.specs.View.{View}
 use Rattle.fs_client.specs.Asked.{fits}

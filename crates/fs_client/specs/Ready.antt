@@ -1,7 +1,7 @@
 -- What a client that does what it may has in flight, and what it awaits.
 use Rattle.std.specs.Prelude.{◌≡◌, ℕ, ◌≤◌, not, List, map, filter}
 use Rattle.std.specs.List.{AllByRecursion}
-use Rattle.share_spec.specs.declared.connection.Sent.{Sent}
+use Rattle.share_state.specs.declared.connection.Sent.{Sent}
 use Rattle.smb_credit.specs.Window.{no_request}
 use Rattle.fs_plain.specs.Masked.{Untold, untold}
 use Rattle.fs_plain.specs.Replies.{command_of}

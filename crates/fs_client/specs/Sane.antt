@@ -2,12 +2,12 @@
 use Rattle.std.specs.Prelude.{◌≡◌, ℕ, ◌<◌, ◌==◌, true, false, IsSomeAnd, List, [], ◌∷◌, Option, Some, None}
 use Rattle.std.specs.List.{AllByRecursion}
 use Rattle.smb_base.specs.declared.names.Mid.{Mid}
-use Rattle.share_spec.specs.declared.connection.Sent.{Sent}
-use Rattle.share_spec.specs.declared.request.Rep.{Rep}
+use Rattle.share_state.specs.declared.connection.Sent.{Sent}
+use Rattle.share_state.specs.declared.request.Rep.{Rep}
 use Rattle.fs_plain.specs.Requests.{WireRequest, wire_request}
 use Rattle.fs_plain.specs.Owners.{Owner, owner_of}
 use Rattle.fs_plain.specs.Told.{Told, was_begun}
-use Rattle.share_spec.specs.Sent.{sent_with}
+use Rattle.share_state.specs.Sent.{sent_with}
 use Rattle.fs_client.specs.Item.{Item, item_with}
 use Rattle.fs_client.specs.View.{View}
 use Rattle.fs_client.specs.Asked.{fits}

@@ -2,8 +2,8 @@
 use Rattle.std.specs.Prelude.{ℕ, Bool, false, List, []}
 use Rattle.smb_base.specs.declared.names.Mid.{Mid}
 use Rattle.fs_types.specs.declared.options.Options.{Options}
-use Rattle.share_spec.specs.declared.connection.Sent.{Sent}
-use Rattle.share_spec.specs.declared.request.Rep.{Rep}
+use Rattle.share_state.specs.declared.connection.Sent.{Sent}
+use Rattle.share_state.specs.declared.request.Rep.{Rep}
 use Rattle.fs_plain.specs.Told.{Told, nothing_told}
 use Rattle.fs_client.specs.Item.{Item, Placed, Leased}
 

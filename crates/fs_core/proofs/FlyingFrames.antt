@@ -10,7 +10,7 @@ use Rattle.smb_chain.specs.declared.parts.BadNext.{BadNext}
 use Rattle.smb_chain.specs.Chain.{linked, parts_for, chain}
 use Rattle.smb_credit.specs.Window.{Ids, no_request, cost, after_use}
 use Rattle.smb_mux.specs.Sending.{costs, head_for, placed, room_of, flights_of}
-use Rattle.share_spec.specs.declared.connection.Sent.{Sent}
+use Rattle.share_state.specs.declared.connection.Sent.{Sent}
 use Rattle.fs_plain.specs.Owners.{mids_among, mids_in}
 use Rattle.fs_plain.specs.World.{waiting, requests_among, requests_in}
 use Rattle.fs_client.specs.View.{Client}

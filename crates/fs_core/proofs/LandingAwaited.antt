@@ -11,9 +11,9 @@ use Rattle.smb_mux.specs.declared.taken.Reply.{Reply}
 use Rattle.smb_mux.specs.Answers.{AreAnswers}
 use Rattle.smb_mux.specs.InFlight.{but}
 use Rattle.smb_mux.specs.Judged.{command_at, is_answered}
-use Rattle.share_spec.specs.declared.connection.Sent.{Sent}
-use Rattle.share_spec.specs.declared.request.Rep.{Rep}
-use Rattle.share_spec.specs.Sent.{sent_but, sent_with}
+use Rattle.share_state.specs.declared.connection.Sent.{Sent}
+use Rattle.share_state.specs.declared.request.Rep.{Rep}
+use Rattle.share_state.specs.Sent.{sent_but, sent_with}
 use Rattle.fs_plain.specs.Replies.{command_of}
 use Rattle.fs_plain.specs.World.{is_first_of_frame}
 use Rattle.fs_client.specs.View.{View}

@@ -8,15 +8,15 @@ use Rattle.smb_base.specs.declared.names.Status.{Status}
 use Rattle.smb_base.specs.ErrorTable.{error_number}
 use Rattle.fs_types.specs.declared.answer.Answer.{Answer}
 use Rattle.fs_types.specs.declared.options.Options.{Options}
-use Rattle.share_spec.specs.declared.connection.LastCreate.{LastCreate}
-use Rattle.share_spec.specs.declared.connection.LastCreate.TheVariants as last
-use Rattle.share_spec.specs.declared.connection.Sent.{Sent}
-use Rattle.share_spec.specs.declared.request.Rep.{Rep}
-use Rattle.share_spec.specs.declared.request.RepBody.{RepBody}
-use Rattle.share_spec.specs.declared.request.RepBody.TheVariants as body
-use Rattle.share_spec.specs.declared.request.Req.{Req}
-use Rattle.share_spec.specs.PlainShare.{shown, shown_body}
-use Rattle.share_spec.specs.Reply.{map_fid}
+use Rattle.share_state.specs.declared.connection.LastCreate.{LastCreate}
+use Rattle.share_state.specs.declared.connection.LastCreate.TheVariants as last
+use Rattle.share_state.specs.declared.connection.Sent.{Sent}
+use Rattle.share_state.specs.declared.request.Rep.{Rep}
+use Rattle.share_state.specs.declared.request.RepBody.{RepBody}
+use Rattle.share_state.specs.declared.request.RepBody.TheVariants as body
+use Rattle.share_state.specs.declared.request.Req.{Req}
+use Rattle.share_state.specs.PlainShare.{shown, shown_body}
+use Rattle.share_state.specs.Reply.{map_fid}
 use Rattle.smb_link.specs.Program.{File, Own, Program, Known, Ask, Say, Query, Close, settled, replied, of_number, of_refusal}
 use Rattle.smb_link.specs.Stat.{stat_of, stat_answer}
 use Rattle.fs_plain.specs.Paired.{open_given}

@@ -17,9 +17,9 @@ use Rattle.smb_mux.specs.declared.taken.Taken.{Taken}
 use Rattle.smb_mux.specs.Answers.{IsAnswerTo, AreAnswers}
 use Rattle.smb_mux.specs.Bodies as mux
 use Rattle.smb_mux.specs.Judged.{judged}
-use Rattle.share_spec.specs.declared.connection.Sent.{Sent}
-use Rattle.share_spec.specs.declared.request.RepBody.TheVariants as body
-use Rattle.share_spec.specs.Sent.{sent_with}
+use Rattle.share_state.specs.declared.connection.Sent.{Sent}
+use Rattle.share_state.specs.declared.request.RepBody.TheVariants as body
+use Rattle.share_state.specs.Sent.{sent_with}
 use Rattle.fs_plain.specs.Masked.{Untold, untold}
 use Rattle.fs_plain.specs.Replies.{command_of, is_error, info_of, info_in, reply_of, reply_by_status}
 use Rattle.fs_plain.specs.Requests.{WireRequest, wire_request}

@@ -22,9 +22,9 @@ use Rattle.smb_mux.specs.declared.look.Look.{Look}
 use Rattle.smb_mux.specs.declared.look.Look.TheVariants as look
 use Rattle.smb_mux.specs.Bodies.{reply_fault}
 use Rattle.smb_mux.specs.Judged as mux
-use Rattle.share_spec.specs.declared.connection.Sent.{Sent}
-use Rattle.share_spec.specs.declared.request.Rep.{Rep}
-use Rattle.share_spec.specs.Sent.{sent_but, sent_with}
+use Rattle.share_state.specs.declared.connection.Sent.{Sent}
+use Rattle.share_state.specs.declared.request.Rep.{Rep}
+use Rattle.share_state.specs.Sent.{sent_but, sent_with}
 use Rattle.fs_plain.specs.Replies.{reply_in}
 use Rattle.fs_plain.specs.Requests.{WireRequest, wire_request}
 use Rattle.fs_plain.specs.Told.{told_after}

@@ -4,11 +4,11 @@ use Rattle.std.specs.Prelude.{map, is_some}
 use Rattle.std.proofs.lemmas.Bool.{false≢true}
 use Rattle.smb_base.specs.declared.names.Mid.{Mid}
 use Rattle.fs_types.specs.declared.options.Options.{Options}
-use Rattle.share_spec.specs.declared.connection.LastCreate.{LastCreate}
-use Rattle.share_spec.specs.declared.connection.Sent.{Sent}
-use Rattle.share_spec.specs.declared.request.Rep.{Rep}
-use Rattle.share_spec.specs.declared.request.RepBody.{RepBody}
-use Rattle.share_spec.specs.Sent.{behind_create, sent_but, sent_with}
+use Rattle.share_state.specs.declared.connection.LastCreate.{LastCreate}
+use Rattle.share_state.specs.declared.connection.Sent.{Sent}
+use Rattle.share_state.specs.declared.request.Rep.{Rep}
+use Rattle.share_state.specs.declared.request.RepBody.{RepBody}
+use Rattle.share_state.specs.Sent.{behind_create, sent_but, sent_with}
 use Rattle.fs_plain.specs.Requests.{WireRequest, wire_request}
 use Rattle.fs_plain.specs.Owners.{Owner}
 use Rattle.fs_plain.specs.World.{is_creating, refusal_before, came_to, is_first_of_frame}

@@ -4,7 +4,7 @@ use Rattle.std.specs.Prelude.{is_some}
 use Rattle.std.proofs.Math.Seq.{take-suc, drop-cons}
 use Rattle.std.proofs.lemmas.List.{take-append-drop}
 use Rattle.smb_mux.specs.Answers.{AreAnswers}
-use Rattle.share_spec.specs.declared.request.Rep.{Rep}
+use Rattle.share_state.specs.declared.request.Rep.{Rep}
 use Rattle.fs_core.specs.declared.flight.Flight.{Flight}
 use Rattle.fs_core.specs.Going.{AreRead}
 use Rattle.fs_types.specs.declared.options.Options.{Options}

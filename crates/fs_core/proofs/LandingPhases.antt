@@ -8,11 +8,11 @@ use Rattle.smb_base.specs.declared.names.Fid.{Fid}
 use Rattle.smb_base.specs.declared.names.Mid.{Mid}
 use Rattle.smb_head.specs.declared.command.TheConstants.{NEGOTIATE, SESSION_SETUP, TREE_CONNECT, TREE_DISCONNECT, LOGOFF}
 use Rattle.smb_mount.specs.declared.facts.Facts.{Facts}
-use Rattle.share_spec.specs.declared.connection.Sent.{Sent}
-use Rattle.share_spec.specs.declared.request.Rep.{Rep}
-use Rattle.share_spec.specs.declared.request.RepBody.TheVariants as body
-use Rattle.share_spec.specs.PlainShare.{shown}
-use Rattle.share_spec.specs.Sent.{sent_but, sent_with}
+use Rattle.share_state.specs.declared.connection.Sent.{Sent}
+use Rattle.share_state.specs.declared.request.Rep.{Rep}
+use Rattle.share_state.specs.declared.request.RepBody.TheVariants as body
+use Rattle.share_state.specs.PlainShare.{shown}
+use Rattle.share_state.specs.Sent.{sent_but, sent_with}
 use Rattle.smb_link.specs.Program.{File, Program, Known, Ask, Look, Say, settled}
 use Rattle.fs_plain.specs.Requests.{WireRequest, wire_request}
 use Rattle.fs_plain.specs.Owners.{Owner, owner_of}

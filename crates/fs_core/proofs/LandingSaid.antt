@@ -18,10 +18,10 @@ use Rattle.smb_body_b.specs.Close.{close_reply_of}
 use Rattle.smb_body_c.specs.Directory.{buffer_reply_of}
 use Rattle.smb_info.specs.Attributes.{all_of}
 use Rattle.smb_mux.specs.Bodies.{reply_fault}
-use Rattle.share_spec.specs.declared.connection.Sent.{Sent}
-use Rattle.share_spec.specs.declared.request.Rep.{Rep}
-use Rattle.share_spec.specs.declared.request.RepBody.{RepBody}
-use Rattle.share_spec.specs.declared.request.RepBody.TheVariants as body
+use Rattle.share_state.specs.declared.connection.Sent.{Sent}
+use Rattle.share_state.specs.declared.request.Rep.{Rep}
+use Rattle.share_state.specs.declared.request.RepBody.{RepBody}
+use Rattle.share_state.specs.declared.request.RepBody.TheVariants as body
 use Rattle.fs_plain.specs.Masked.{Untold, untold}
 use Rattle.fs_plain.specs.Paired.{open_given}
 use Rattle.fs_plain.specs.Requests.{WireRequest, wire_request}

@@ -5,10 +5,10 @@ use Rattle.smb_head.specs.declared.command.TheConstants.{CREATE, CLOSE, QUERY_IN
 use Rattle.smb_mux.specs.declared.taken.Reply.{Reply}
 use Rattle.smb_mux.specs.Answers.{IsAnswerTo, AreAnswers}
 use Rattle.smb_mux.specs.InFlight.{without}
-use Rattle.share_spec.specs.declared.connection.Sent.{Sent}
-use Rattle.share_spec.specs.declared.request.Rep.{Rep}
-use Rattle.share_spec.specs.declared.request.Req.{Req}
-use Rattle.share_spec.specs.Sent.{sent_but, sent_with}
+use Rattle.share_state.specs.declared.connection.Sent.{Sent}
+use Rattle.share_state.specs.declared.request.Rep.{Rep}
+use Rattle.share_state.specs.declared.request.Req.{Req}
+use Rattle.share_state.specs.Sent.{sent_but, sent_with}
 use Rattle.fs_types.specs.declared.options.Options.{Options}
 use Rattle.fs_plain.specs.Masked.{Untold, untold}
 use Rattle.fs_plain.specs.Requests.{WireRequest, wire_request}

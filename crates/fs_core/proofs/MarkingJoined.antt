@@ -7,8 +7,8 @@ use Rattle.smb_base.specs.declared.names.Mid.{Mid}
 use Rattle.smb_credit.specs.Window.{numbers, up_to}
 use Rattle.smb_mount.specs.Kept.{Start}
 use Rattle.smb_mux.specs.InFlight.{start}
-use Rattle.share_spec.specs.declared.connection.Sent.{Sent}
-use Rattle.share_spec.specs.declared.request.Rep.{Rep}
+use Rattle.share_state.specs.declared.connection.Sent.{Sent}
+use Rattle.share_state.specs.declared.request.Rep.{Rep}
 use Rattle.smb_link.specs.declared.event.Event.TheVariants as event
 use Rattle.fs_client.specs.Item.{Item, parted}
 use Rattle.fs_client.specs.View.{Setting, Client, no_client}

@@ -2,7 +2,7 @@
 use Rattle.std.proofs.Common.{◌≡◌, ◌∙◌, refl, sym, ap, subst, ℕ, zero, suc, Bool, true, false, if◌then◌else◌, List, [], ◌∷◌, ◌++◌, length, Option, Some, None}
 use Rattle.smb_mux.specs.declared.taken.Reply.{Reply}
 use Rattle.smb_mux.specs.declared.taken.Taken.{Taken}
-use Rattle.share_spec.specs.declared.request.Rep.{Rep}
+use Rattle.share_state.specs.declared.request.Rep.{Rep}
 use Rattle.fs_types.specs.declared.options.Options.{Options}
 use Rattle.fs_client.specs.View.{Client}
 use Rattle.fs_client.specs.Sane.{Sane}

@@ -6,7 +6,7 @@ use Rattle.std.proofs.lemmas.Bool.{false≢true}
 use Rattle.std.proofs.lemmas.Bool.Decides.{eqb_tells}
 use Rattle.smb_base.specs.declared.names.Mid.{Mid}
 use Rattle.fs_types.specs.declared.options.Options.{Options}
-use Rattle.share_spec.specs.declared.connection.Sent.{Sent}
+use Rattle.share_state.specs.declared.connection.Sent.{Sent}
 use Rattle.fs_plain.specs.Owners.{Owner, owner_of}
 use Rattle.fs_client.specs.Item.{Item, item_with, items_but}
 use Rattle.fs_client.specs.View.{View}

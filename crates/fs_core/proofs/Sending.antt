@@ -11,7 +11,7 @@ use Rattle.smb_link.specs.declared.event.Event.TheVariants as event
 use Rattle.smb_link.specs.declared.mark.Mark.TheVariants as mark
 use Rattle.smb_link.specs.Program.{Wish, settled}
 use Rattle.smb_mount.specs.declared.facts.Facts.{Facts}
-use Rattle.share_spec.specs.declared.connection.Sent.{Sent}
+use Rattle.share_state.specs.declared.connection.Sent.{Sent}
 use Rattle.fs_plain.specs.Owners.{mids_in, Owner, owner_of}
 use Rattle.fs_plain.specs.Replies.{command_of}
 use Rattle.fs_plain.specs.Told.{Announcement}

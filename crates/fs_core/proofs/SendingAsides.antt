@@ -16,7 +16,7 @@ use Rattle.smb_mount.specs.Tokens.{negotiate_token, authenticate_token}
 use Rattle.smb_mount.specs.Requests.{no_fields, empty_body, negotiate, session_setup, tree_connect, tree_disconnect, logoff}
 use Rattle.smb_mux.specs.Sending.{costs, head_for, placed, room_of}
 use Rattle.smb_link.specs.declared.event.Event.TheVariants as event
-use Rattle.share_spec.specs.declared.connection.Sent.{Sent}
+use Rattle.share_state.specs.declared.connection.Sent.{Sent}
 use Rattle.fs_plain.specs.Owners.{mids_in, Owner, owner_of}
 use Rattle.fs_plain.specs.Requests.{WireRequest}
 use Rattle.fs_plain.specs.Told.{Announcement}

@@ -17,9 +17,9 @@ use Rattle.smb_link.specs.Program.{Own, File, Wish, Query, Close, Program, Known
 use Rattle.smb_link.specs.Stat.{stat_answer, stat_once_open}
 use Rattle.smb_mount.specs.declared.facts.Facts.{Facts}
 use Rattle.fs_types.specs.declared.options.Options.{Options}
-use Rattle.share_spec.specs.declared.connection.Sent.{Sent}
-use Rattle.share_spec.specs.declared.request.Req.{Req}
-use Rattle.share_spec.specs.declared.request.Req.TheVariants as req
+use Rattle.share_state.specs.declared.connection.Sent.{Sent}
+use Rattle.share_state.specs.declared.request.Req.{Req}
+use Rattle.share_state.specs.declared.request.Req.TheVariants as req
 use Rattle.fs_plain.specs.Replies.{command_of}
 use Rattle.fs_plain.specs.Wishes.{wish_of}
 use Rattle.fs_plain.specs.World.{waiting, requests_in, is_creating}

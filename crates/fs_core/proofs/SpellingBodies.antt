@@ -27,9 +27,9 @@ use Rattle.smb_mount.specs.declared.facts.Facts.{Facts}
 use Rattle.smb_mount.specs.Requests.{unit_bytes}
 use Rattle.smb_mux.specs.Sending.{head_for}
 use Rattle.smb_link.specs.Program.{File, Open as Opening, Query, Close}
-use Rattle.share_spec.specs.declared.request.Req.{Req}
-use Rattle.share_spec.specs.declared.request.Req.TheVariants as req
-use Rattle.share_spec.specs.State.{has}
+use Rattle.share_state.specs.declared.request.Req.{Req}
+use Rattle.share_state.specs.declared.request.Req.TheVariants as req
+use Rattle.share_state.specs.State.{has}
 use Rattle.fs_plain.specs.Wire.{units_in}
 use Rattle.fs_plain.specs.Masked.{Untold, untold_of_class, untold_of_contexts, untold}
 use Rattle.fs_plain.specs.Replies.{command_of}

@@ -18,7 +18,7 @@ use Rattle.smb_body_b.specs.Contexts.{read_of}
 use Rattle.smb_body_b.specs.Create.{create_request_of}
 use Rattle.smb_body_c.specs.Info.{query_info_request_of}
 use Rattle.smb_mux.specs.Sending.{head_for}
-use Rattle.share_spec.specs.State.{has}
+use Rattle.share_state.specs.State.{has}
 use Rattle.fs_plain.specs.Masked.{Untold, untold_of_class, untold_of_contexts, untold_with, untold}
 use Rattle.fs_plain.specs.Replies.{command_of}
 use Rattle.fs_plain.specs.Requests.{asked_with, by_command, wire_request}

@@ -13,7 +13,7 @@ use Rattle.smb_mount.specs.declared.facts.Facts.{Facts}
 use Rattle.smb_mount.specs.Requests.{charge_of}
 use Rattle.smb_mux.specs.Sending.{head_for, message_for, placed, room_of}
 use Rattle.smb_link.specs.Program.{File, Wish, Open as Opening, Query, Close}
-use Rattle.share_spec.specs.declared.connection.LastCreate.TheVariants as last
+use Rattle.share_state.specs.declared.connection.LastCreate.TheVariants as last
 use Rattle.fs_plain.specs.Replies.{command_of}
 use Rattle.fs_plain.specs.Requests.{WireRequest}
 use Rattle.fs_plain.specs.Wishes.{wish_of}

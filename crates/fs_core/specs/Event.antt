@@ -5,8 +5,8 @@ use Rattle.smb_head.specs.declared.command.TheConstants.{QUERY_INFO, LOGOFF}
 use Rattle.smb_head.specs.declared.request.Request.{Request}
 use Rattle.smb_head.specs.Header.{head_of}
 use Rattle.smb_head.specs.Stream.{frames_in}
-use Rattle.share_spec.specs.declared.connection.Sent.{Sent}
-use Rattle.share_spec.specs.Sent.{sent_with}
+use Rattle.share_state.specs.declared.connection.Sent.{Sent}
+use Rattle.share_state.specs.Sent.{sent_with}
 use Rattle.smb_link.specs.declared.event.Event.{Event}
 use Rattle.smb_link.specs.declared.event.Event.TheVariants as event
 use Rattle.smb_link.specs.declared.mark.Mark.{Mark}

@@ -7,7 +7,7 @@ use Rattle.fs_types.specs.declared.answer.Answer.TheVariants as answer
 use Rattle.fs_types.specs.declared.call.Call.{Call}
 use Rattle.fs_types.specs.declared.options.Options.{Options}
 use Rattle.smb_head.specs.declared.command.TheConstants.{NEGOTIATE, SESSION_SETUP, TREE_CONNECT, TREE_DISCONNECT, LOGOFF, CREATE, CLOSE, QUERY_INFO}
-use Rattle.share_spec.specs.declared.connection.Sent.{Sent}
+use Rattle.share_state.specs.declared.connection.Sent.{Sent}
 use Rattle.smb_link.specs.Program.{Program, Open as Opening, Query, Close, Own, Ask, Say}
 use Rattle.smb_link.specs.Stat.{stat_answer, stat_once_open}
 use Rattle.smb_mount.specs.declared.facts.Facts.{Facts}

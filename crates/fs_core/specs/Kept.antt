@@ -1,7 +1,7 @@
 -- What the core keeps between two inputs, and its outputs that were not taken yet.
 use Rattle.std.specs.Prelude.{ℕ, Bool, List, Option}
 use Rattle.smb_base.specs.declared.names.Mid.{Mid}
-use Rattle.share_spec.specs.declared.request.Rep.{Rep}
+use Rattle.share_state.specs.declared.request.Rep.{Rep}
 use Rattle.smb_mux.specs.InFlight.{InFlight}
 use Rattle.fs_client.specs.View.{Setting}
 use Rattle.fs_core.specs.declared.flight.Flight.{Flight}

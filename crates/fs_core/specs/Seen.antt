@@ -2,8 +2,8 @@
 use Rattle.std.specs.Prelude.{◌≡◌, ℕ, ◌==◌, Bool, ◌&&◌, ◌||◌, is_ok, false, List, Option, Some, None, Result, Ok, Err}
 use Rattle.smb_head.specs.declared.command.TheConstants.{CREATE, CLOSE, QUERY_INFO}
 use Rattle.smb_body_c.specs.Directory.{buffer_reply_of}
-use Rattle.share_spec.specs.declared.request.Rep.{Rep}
-use Rattle.share_spec.specs.declared.request.RepBody.{RepBody}
+use Rattle.share_state.specs.declared.request.Rep.{Rep}
+use Rattle.share_state.specs.declared.request.RepBody.{RepBody}
 use Rattle.fs_core.specs.declared.read.WireFault.{WireFault}
 use Rattle.fs_core.specs.declared.read.WireFault.TheVariants as fault
 

@@ -5,7 +5,7 @@ ghost use Rattle.fs_core.specs.Parts.{is_held, held_but};
 ghost use Rattle.fs_core.specs.Steps.{turn_if, next_turn};
 
 use crate::flight::{Flight, flight_with, is_first};
-use share_spec::Rep;
+use share_state::Rep;
 use smb_base::Mid;
 
 /// Whether a reply to the request with an id waits.

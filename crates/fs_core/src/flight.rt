@@ -6,7 +6,7 @@ ghost use Rattle.fs_core.specs.Parts.{flight_with, flights_but, is_first, is_num
 ghost use Rattle.fs_core.specs.Steps.{id_behind, flights_from, gives_open, is_open, flights_left};
 ghost use Rattle.fs_core.specs.Asks.{kind_of, kinds_of};
 
-use share_spec::{Rep, RepBody};
+use share_state::{Rep, RepBody};
 use smb_base::{Mid, NoMemory};
 use smb_head::Request;
 use smb_head::command::{CLOSE, CREATE, QUERY_INFO};

@@ -15,7 +15,7 @@ use crate::machine::Core;
 use crate::phase::Phase;
 use crate::read::{WireFault, read_reply};
 use crate::slot::advance;
-use share_spec::Rep;
+use share_state::Rep;
 use smb_base::Bytes;
 use smb_field::BodyFault;
 use smb_head::command::{CLOSE, CREATE, QUERY_INFO};

@@ -1,7 +1,7 @@
 //! What a reply says.
 
 ghost use Rattle.std.specs.Prelude.{◌≡◌, true, false, bit_and, None, Some, Err, IfErr, if◌then◌else◌};
-ghost use Rattle.share_spec.specs.declared.request.RepBody.TheVariants as body;
+ghost use Rattle.share_state.specs.declared.request.RepBody.TheVariants as body;
 ghost use Rattle.fs_plain.specs.Masked.{Nothing};
 ghost use Rattle.fs_plain.specs.Replies.{granted_state, opened_in, opened_with, closed_in, known_whole, info_of, info_in, body_in, is_error, reply_by_status, reply_of};
 ghost use Rattle.smb_body_b.specs.Create.{seen_create_reply};
@@ -11,7 +11,7 @@ ghost use Rattle.smb_head.specs.declared.command.TheConstants.{QUERY_INFO};
 ghost use Rattle.fs_core.specs.declared.read.WireFault.TheVariants as fault;
 ghost use Rattle.fs_core.specs.Seen.{seen, seen_body, is_done, is_known, IsOfBody, IsOfInfo, IsOfInformation, IsOfReply};
 
-use share_spec::{Rep, RepBody};
+use share_state::{Rep, RepBody};
 use smb_base::{Key, Status};
 use smb_body_b::{
     BodyFault, ContextSet, CreateReply, read_close_reply, read_contexts, read_create_reply,

@@ -9,7 +9,7 @@ ghost use Rattle.fs_core.specs.Asks.{progress_with, asking_with, first_said};
 use crate::flight::{Flight, is_idle};
 use crate::stat::{Outcome, Progress, Stat};
 use fs_types::Options;
-use share_spec::Rep;
+use share_state::Rep;
 
 /// A call that was begun and is not answered.
 #[derive(Drop)]

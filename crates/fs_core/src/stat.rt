@@ -11,7 +11,7 @@ ghost use Rattle.fs_core.specs.Steps.{advanced_by, opened_with, outcome_of, outc
 
 use crate::request::{EVERY_BIT, Requests, close, open, query};
 use fs_types::{Answer, Kind, Options, StatOf};
-use share_spec::{Rep, RepBody};
+use share_state::{Rep, RepBody};
 use smb_base::{Errno, Fid, NoMemory, Status, Units, errno_of};
 use smb_mount::Facts;
 use smb_names::{NameFault, NameMap, split_path, wire_path};

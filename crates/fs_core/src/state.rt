@@ -6,7 +6,7 @@ ghost use Rattle.fs_core.specs.Start.{kept_at_start};
 use crate::flight::Flight;
 use crate::phase::Phase;
 use crate::slot::Slot;
-use share_spec::Rep;
+use share_state::Rep;
 use smb_base::Mid;
 use smb_mount::New;
 use smb_mux::Mux;

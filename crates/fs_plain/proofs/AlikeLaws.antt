@@ -3,20 +3,20 @@ use Rattle.std.proofs.Common.{◌≡◌, ◌≤◌, ℕ, true, false, [], ◌∷
 use Rattle.std.specs.List.{list_all}
 use Rattle.std.proofs.lemmas.Bool.{false≢true}
 use Rattle.smb_base.specs.declared.names.Key.{Key}
-use Rattle.share_spec.specs.declared.connection.Grant.{Grant}
-use Rattle.share_spec.specs.declared.lease.Lease.{Lease}
-use Rattle.share_spec.specs.declared.opens.Open.{Open}
-use Rattle.share_spec.specs.declared.request.Who.{Who}
-use Rattle.share_spec.specs.declared.request.Req.{Req}
-use Rattle.share_spec.specs.declared.request.Rep.{Rep}
-use Rattle.share_spec.specs.declared.share.Share.{Share}
-use Rattle.share_spec.specs.Built.{is_built}
-use Rattle.share_spec.specs.Close.{has_open_of_key, kept_leases, closed, close_open}
-use Rattle.share_spec.specs.Cut.{after_cut}
-use Rattle.share_spec.specs.Reply.{map_fid}
-use Rattle.share_spec.specs.State.{Making}
-use Rattle.share_spec.specs.Step.{step_of}
-use Rattle.share_spec.specs.PlainShare.{plain_step, shown}
+use Rattle.share_state.specs.declared.connection.Grant.{Grant}
+use Rattle.share_state.specs.declared.lease.Lease.{Lease}
+use Rattle.share_state.specs.declared.opens.Open.{Open}
+use Rattle.share_state.specs.declared.request.Who.{Who}
+use Rattle.share_state.specs.declared.request.Req.{Req}
+use Rattle.share_state.specs.declared.request.Rep.{Rep}
+use Rattle.share_state.specs.declared.share.Share.{Share}
+use Rattle.share_state.specs.Built.{is_built}
+use Rattle.share_state.specs.Close.{has_open_of_key, kept_leases, closed, close_open}
+use Rattle.share_state.specs.Cut.{after_cut}
+use Rattle.share_state.specs.Reply.{map_fid}
+use Rattle.share_state.specs.State.{Making}
+use Rattle.share_state.specs.Step.{step_of}
+use Rattle.share_state.specs.PlainShare.{plain_step, shown}
 use Rattle.smb_link.specs.declared.event.Event.{Event}
 use Rattle.smb_link.specs.declared.event.Event.TheVariants as event
 use Rattle.fs_plain.specs.World.{happens}
@@ -26,7 +26,7 @@ use Rattle.fs_plain.specs.Alike.{bare, AreStanding, AreSame, IsIdentical, Alike,
 use Rattle.fs_plain.specs.Paired.{Pair, plain_of_real, pair_given}
 use Rattle.fs_plain.specs.PlainSide.{PlainSide, plain_side}
 use Rattle.fs_plain.specs.Divergence.{ended_between, fid_carried, all_ended_with, side_after_ends}
-use Rattle.fs_plain.proofs.PlainTree.{bare_of}
+use Rattle.fs_plain.proofs.Deeds.{bare_of}
 use Rattle.fs_plain.proofs.Steps.{step_counts, step_numbers, step_names}
 use Rattle.fs_plain.proofs.Identity.{none_made, pairs_counted}
 use Rattle.fs_plain.proofs.Carried.{act_same}

@@ -2,10 +2,10 @@
 use Rattle.std.proofs.Common.{false, [], ◌∷◌, ap, None, Some, List, Option, Bool, ◌==◌}
 use Rattle.std.specs.Prelude.{take}
 use Rattle.std.proofs.lemmas.Bool.{true≢false, false≢true}
-use Rattle.share_spec.specs.declared.request.Req.TheVariants as req
-use Rattle.share_spec.specs.declared.request.Rep.{Rep}
-use Rattle.share_spec.specs.Reply.{opened_reply}
-use Rattle.share_spec.specs.Names.{components}
+use Rattle.share_state.specs.declared.request.Req.TheVariants as req
+use Rattle.share_state.specs.declared.request.Rep.{Rep}
+use Rattle.share_state.specs.Reply.{opened_reply}
+use Rattle.share_state.specs.Names.{components}
 use Rattle.smb_link.specs.declared.event.Event.{Event}
 use Rattle.smb_link.specs.declared.event.Event.TheVariants as event
 use Rattle.smb_le.specs.Numbers.{number_at}

@@ -3,22 +3,22 @@ use Rattle.std.proofs.Common.{rules, ◌≡◌, ℕ, true, false, [], ◌∷◌,
 use Rattle.std.specs.List.{AllByRecursion}
 use Rattle.std.proofs.lemmas.Bool.Decides.{eqb_tells}
 use Rattle.smb_base.specs.declared.names.Fid.{Fid}
-use Rattle.share_spec.specs.declared.connection.Grant.{Grant}
-use Rattle.share_spec.specs.declared.opens.Open.{Open}
-use Rattle.share_spec.specs.declared.request.Who.{Who}
-use Rattle.share_spec.specs.declared.request.Req.{Req}
-use Rattle.share_spec.specs.declared.request.Req.TheVariants as req
-use Rattle.share_spec.specs.declared.share.Share.{Share}
-use Rattle.share_spec.specs.Built.{is_built}
-use Rattle.share_spec.specs.Reply.{fid_of, map_fid}
-use Rattle.share_spec.specs.Close.{open_of, is_open_of, close_open}
-use Rattle.share_spec.specs.Query.{query_open}
-use Rattle.share_spec.specs.Step.{step_of}
-use Rattle.share_spec.specs.PlainShare.{plain_step}
+use Rattle.share_state.specs.declared.connection.Grant.{Grant}
+use Rattle.share_state.specs.declared.opens.Open.{Open}
+use Rattle.share_state.specs.declared.request.Who.{Who}
+use Rattle.share_state.specs.declared.request.Req.{Req}
+use Rattle.share_state.specs.declared.request.Req.TheVariants as req
+use Rattle.share_state.specs.declared.share.Share.{Share}
+use Rattle.share_state.specs.Built.{is_built}
+use Rattle.share_state.specs.Reply.{fid_of, map_fid}
+use Rattle.share_state.specs.Close.{open_of, is_open_of, close_open}
+use Rattle.share_state.specs.Step.{step_of}
+use Rattle.share_state.specs.PlainShare.{plain_step}
 use Rattle.fs_plain.specs.Paired.{Pair, plain_of_real}
 use Rattle.fs_plain.specs.Divergence.{fid_carried}
 use Rattle.fs_plain.specs.Alike.{bare, IsStanding, AreStanding, AreSame}
-use Rattle.fs_plain.proofs.PlainTree.{bare_of, step_bare}
+use Rattle.fs_plain.proofs.Deeds.{bare_of, fid_in, deed_of, deed_is, deed_carried, deed_bare}
+use Rattle.fs_plain.proofs.PlainTree.{step_bare}
 use Rattle.fs_plain.proofs.Identity.{same_test}
 
 -- a number is not two numbers
@@ -79,20 +79,10 @@ act_same pairs choice s who (req.Create path access share disposition options at
 act_same pairs choice s who (req.Close fid) same numbered built =
     ap (λ (o : Option Open). close_open o (bare s)) (open_of_carried pairs s who fid same numbered)
     ∙ step_bare choice (Some (record { lease = 0; durable = false })) s who (req.Close fid) built
-act_same pairs choice s who (req.Query fid) same numbered built =
-    ap (λ (o : Option Open). query_open o (bare s)) (open_of_carried pairs s who fid same numbered)
-    ∙ step_bare choice (Some (record { lease = 0; durable = false })) s who (req.Query fid) built
-act_same pairs choice s who (req.Flush a) same numbered built = refl
-act_same pairs choice s who (req.Room a) same numbered built = refl
-act_same pairs choice s who (req.Read a b c) same numbered built = refl
-act_same pairs choice s who (req.Write a b c) same numbered built = refl
-act_same pairs choice s who (req.Lock a b c d) same numbered built = refl
-act_same pairs choice s who (req.Unlock a b c) same numbered built = refl
-act_same pairs choice s who (req.List a b c) same numbered built = refl
-act_same pairs choice s who (req.SetBasic a b) same numbered built = refl
-act_same pairs choice s who (req.SetEnd a b) same numbered built = refl
-act_same pairs choice s who (req.SetPending a b) same numbered built = refl
-act_same pairs choice s who (req.Rename a b c) same numbered built = refl
-act_same pairs choice s who (req.LinkTo a b c) same numbered built = refl
-act_same pairs choice s who (req.Ack a b) same numbered built = refl
-act_same pairs choice s who (req.Reclaim a b) same numbered built = refl
+act_same pairs choice s who other same numbered built =
+    deed_is (Some (record { lease = 0; durable = false })) (bare s) who (map_fid (fid_carried pairs) other) refl
+    ∙ deed_carried (fid_carried pairs) (bare s) who other (open_of s.opens who (fid_carried pairs (fid_in other)))
+    (each_test pairs s.opens_made who (fid_in other) same s.opens numbered.0)
+    ∙ ap (deed_of (bare s) who other) (open_of_carried pairs s who (fid_in other) same numbered)
+    ∙ deed_bare s who other (open_of s.opens who (fid_in other))
+    ∙ ap bare_of (sym (deed_is choice s who other refl))

@@ -2,10 +2,10 @@
 use Rattle.std.proofs.Common.{rules, ◌≡◌, ℕ, true, false, [], ◌∷◌, refl, ap, sym, subst, ◌∙◌, Some, List, Option, Bool, ◌==◌, ◌&&◌, ◌||◌, not, if◌then◌else◌}
 use Rattle.std.specs.Prelude.{map, filter}
 use Rattle.std.specs.List.{AllByRecursion, list_any}
-use Rattle.share_spec.specs.declared.opens.Open.{Open}
-use Rattle.share_spec.specs.declared.share.Share.{Share}
-use Rattle.share_spec.specs.Close.{closed, opens_but}
-use Rattle.share_spec.specs.Cut.{all_closed, ends_with, is_broken, disconnected, after_cut}
+use Rattle.share_state.specs.declared.opens.Open.{Open}
+use Rattle.share_state.specs.declared.share.Share.{Share}
+use Rattle.share_state.specs.Close.{closed, opens_but}
+use Rattle.share_state.specs.Cut.{all_closed, ends_with, is_broken, disconnected, after_cut}
 use Rattle.fs_plain.specs.World.{us}
 use Rattle.fs_plain.specs.Paired.{Pair, plain_of_real}
 use Rattle.fs_plain.specs.Divergence.{with_number, closed_if, all_ended_with, ended_between}

@@ -5,10 +5,10 @@ use Rattle.std.specs.List.{list_any}
 use Rattle.fs_plain.proofs.Every.{every-more}
 use Rattle.std.specs.List.{AllByRecursion}
 use Rattle.smb_base.specs.declared.names.Key.{Key}
-use Rattle.share_spec.specs.declared.opens.Open.{Open}
-use Rattle.share_spec.specs.declared.share.Share.{Share}
-use Rattle.share_spec.specs.Close.{is_key_of}
-use Rattle.share_spec.specs.Cut.{all_closed}
+use Rattle.share_state.specs.declared.opens.Open.{Open}
+use Rattle.share_state.specs.declared.share.Share.{Share}
+use Rattle.share_state.specs.Close.{is_key_of}
+use Rattle.share_state.specs.Cut.{all_closed}
 use Rattle.smb_link.specs.declared.event.Event.TheVariants as event
 use Rattle.fs_plain.specs.World.{happens}
 use Rattle.fs_plain.specs.Divergence.{ended_between}

@@ -7,12 +7,12 @@ use Rattle.fs_types.specs.declared.names.Kind.TheVariants as kind
 use Rattle.fs_types.specs.declared.answer.Answer.TheVariants as answer
 use Rattle.fs_types.specs.declared.call.Call.TheVariants as call
 use Rattle.fs_types.specs.declared.options.Options.{Options}
-use Rattle.share_spec.specs.declared.request.Req.TheVariants as req
-use Rattle.share_spec.specs.Reply.{of_status, fid_of, opened_reply}
-use Rattle.share_spec.specs.Names.{components}
-use Rattle.share_spec.specs.State.{Making}
-use Rattle.share_spec.specs.declared.share.Share.{Share}
-use Rattle.share_spec.specs.declared.opens.Open.{Open}
+use Rattle.share_state.specs.declared.request.Req.TheVariants as req
+use Rattle.share_state.specs.Reply.{of_status, fid_of, opened_reply}
+use Rattle.share_state.specs.Names.{components}
+use Rattle.share_state.specs.State.{Making}
+use Rattle.share_state.specs.declared.share.Share.{Share}
+use Rattle.share_state.specs.declared.opens.Open.{Open}
 use Rattle.smb_link.specs.declared.event.Event.{Event}
 use Rattle.smb_link.specs.declared.event.Event.TheVariants as event
 use Rattle.smb_link.specs.declared.mark.Mark.TheVariants as mark

@@ -2,10 +2,10 @@
 use Rattle.std.proofs.Common.{rules, ◌≡◌, ℕ, true, false, [], ◌∷◌, ◌++◌, ◌+◌, ◌≤◌, ◌<◌, refl, ap, sym, ◌∙◌, inl, inr, List, Bool, ◌==◌, if◌then◌else◌}
 use Rattle.std.proofs.lemmas.Bool.{cases_lt}
 use Rattle.std.proofs.lemmas.Bool.Decides.{eqb_tells}
-use Rattle.share_spec.specs.declared.request.RepBody.{RepBody}
-use Rattle.share_spec.specs.declared.request.RepBody.TheVariants as body
-use Rattle.share_spec.specs.declared.request.Rep.{Rep}
-use Rattle.share_spec.specs.declared.share.Share.{Share}
+use Rattle.share_state.specs.declared.request.RepBody.{RepBody}
+use Rattle.share_state.specs.declared.request.RepBody.TheVariants as body
+use Rattle.share_state.specs.declared.request.Rep.{Rep}
+use Rattle.share_state.specs.declared.share.Share.{Share}
 use Rattle.fs_plain.specs.Paired.{Pair, plain_of_real, opened_number, open_given, paired, pair_given, NamesIn, Names}
 use Rattle.fs_plain.specs.Alike.{AreSame}
 use Rattle.fs_plain.proofs.Steps.{Counts}

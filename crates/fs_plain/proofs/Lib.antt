@@ -3,6 +3,7 @@ mod HonestStory
 mod EdgeStories
 mod BrokenStories
 pub mod PlainTree
+pub mod Deeds
 pub mod Steps
 pub mod Every
 pub mod Opens

@@ -3,31 +3,32 @@ use Rattle.std.proofs.Common.{rules, ◌≡◌, ℕ, true, false, [], ◌∷◌,
 use Rattle.std.specs.Prelude.{map, ◌⊎◌, ◌||◌}
 use Rattle.std.specs.List.{AllByRecursion, list_all}
 use Rattle.std.proofs.lemmas.Bool.{false≢true}
-use Rattle.share_spec.specs.declared.connection.Grant.{Grant}
-use Rattle.share_spec.specs.declared.granting.Granting.{Granting}
-use Rattle.share_spec.specs.declared.opens.Open.{Open}
-use Rattle.share_spec.specs.declared.create.Wanted.{Wanted}
-use Rattle.share_spec.specs.declared.place.Found.{Found}
-use Rattle.share_spec.specs.declared.place.Place.{Place}
-use Rattle.share_spec.specs.declared.place.Place.TheVariants.{NoPath, Missing, There}
-use Rattle.share_spec.specs.declared.request.Who.{Who}
-use Rattle.share_spec.specs.declared.request.Req.{Req}
-use Rattle.share_spec.specs.declared.request.Req.TheVariants as req
-use Rattle.share_spec.specs.declared.request.Rep.{Rep}
-use Rattle.share_spec.specs.declared.share.Share.{Share}
-use Rattle.share_spec.specs.Names.{components, is_name}
-use Rattle.share_spec.specs.State.{has, is_directory, is_read_only, emptied, has_entries, is_pending, is_going}
-use Rattle.share_spec.specs.Reply.{unless, refused, fid_of}
-use Rattle.share_spec.specs.Place.{place_of}
-use Rattle.share_spec.specs.Leases.{is_elsewhere, granting_of}
-use Rattle.share_spec.specs.Create.{create_at, create_of, made, opened, open_with, overwrites, or_else, has_unshared, refusal_of_key, refusal_of_missing, refusal_of_kind, refusal_of_read_only, refusal_of_use, refusal_of_there, is_disposition}
-use Rattle.share_spec.specs.Close.{is_open_of, open_of, close_open}
-use Rattle.share_spec.specs.Query.{query_open}
-use Rattle.share_spec.specs.Step.{step_of}
+use Rattle.share_state.specs.declared.connection.Grant.{Grant}
+use Rattle.share_state.specs.declared.granting.Granting.{Granting}
+use Rattle.share_state.specs.declared.opens.Open.{Open}
+use Rattle.share_state.specs.declared.wanted.Wanted.{Wanted}
+use Rattle.share_state.specs.declared.place.Found.{Found}
+use Rattle.share_state.specs.declared.place.Place.{Place}
+use Rattle.share_state.specs.declared.place.Place.TheVariants.{NoPath, Missing, There}
+use Rattle.share_state.specs.declared.request.Who.{Who}
+use Rattle.share_state.specs.declared.request.Req.{Req}
+use Rattle.share_state.specs.declared.request.Req.TheVariants as req
+use Rattle.share_state.specs.declared.request.Rep.{Rep}
+use Rattle.share_state.specs.declared.share.Share.{Share}
+use Rattle.share_state.specs.Names.{components, is_name}
+use Rattle.share_state.specs.State.{has, is_directory, is_read_only, emptied, has_entries, is_pending, is_going}
+use Rattle.share_state.specs.Reply.{unless, refused, fid_of}
+use Rattle.share_state.specs.Place.{place_of}
+use Rattle.share_state.specs.Leases.{is_elsewhere, granting_of}
+use Rattle.share_state.specs.Create.{create_at, create_of, made, opened, open_with, overwrites, or_else, has_unshared, refusal_of_key, refusal_of_missing, refusal_of_kind, refusal_of_read_only, refusal_of_use, refusal_of_there, is_disposition}
+use Rattle.share_state.specs.Close.{is_open_of, open_of, close_open}
+use Rattle.share_state.specs.Query.{query_open}
+use Rattle.share_state.specs.Step.{step_of}
 use Rattle.fs_plain.specs.World.{us}
 use Rattle.fs_plain.specs.Paired.{opened_number}
 use Rattle.fs_plain.specs.Alike.{IsStanding}
 use Rattle.fs_plain.proofs.Every.{every-snoc, every-filter, every-more, all_kept}
+use Rattle.fs_plain.proofs.Deeds.{whole_listing, step_deed, every_listing}
 use Rattle.fs_plain.proofs.Steps.{no_zero}
 
 -- where a CREATE is refused, its status is one of failure
@@ -174,9 +175,11 @@ pub query_every : (P : Open → Type 0) (found : Option Open) (s : Share) → Al
 query_every P None s all = all
 query_every P (Some o) s all = all
 
-pub step_every : (P : Open → Type 0) (choice : Option Grant) (s : Share) (who : Who) (r : Req) → ((o : Open) → o.who ≡ who → P o) → AllByRecursion P s.opens
+-- where it does not hang on what is left of a listing
+pub step_every : (P : Open → Type 0) (choice : Option Grant) (s : Share) (who : Who) (r : Req) → ((o : Open) → o.who ≡ who → P o)
+    → ((o : Open) → P o → P (whole_listing o)) → ((o : Open) → P (whole_listing o) → P o) → AllByRecursion P s.opens
     → AllByRecursion P (step_of choice s who r).1.opens
-step_every P choice s who (req.Create path access share disposition options attributes lease durable) own all =
+step_every P choice s who (req.Create path access share disposition options attributes lease durable) own to from all =
     let w : Wanted = record {
       access = access;
       share = share;
@@ -187,22 +190,9 @@ step_every P choice s who (req.Create path access share disposition options attr
       durable = durable;
     } in
     created_every P s who (create_of choice s who path w) own all (create_creates choice s who path w)
-step_every P choice s who (req.Close fid) own all = close_every P (open_of s.opens who fid) s all
-step_every P choice s who (req.Query fid) own all = query_every P (open_of s.opens who fid) s all
-step_every P choice s who (req.Flush a) own all = all
-step_every P choice s who (req.Room a) own all = all
-step_every P choice s who (req.Read a b c) own all = all
-step_every P choice s who (req.Write a b c) own all = all
-step_every P choice s who (req.Lock a b c d) own all = all
-step_every P choice s who (req.Unlock a b c) own all = all
-step_every P choice s who (req.List a b c) own all = all
-step_every P choice s who (req.SetBasic a b) own all = all
-step_every P choice s who (req.SetEnd a b) own all = all
-step_every P choice s who (req.SetPending a b) own all = all
-step_every P choice s who (req.Rename a b c) own all = all
-step_every P choice s who (req.LinkTo a b c) own all = all
-step_every P choice s who (req.Ack a b) own all = all
-step_every P choice s who (req.Reclaim a b) own all = all
+step_every P choice s who (req.Close fid) own to from all = close_every P (open_of s.opens who fid) s all
+step_every P choice s who other own to from all =
+    every_listing P to from (step_of choice s who other).1.opens s.opens (step_deed choice s who other refl).opens all
 
 -- an open of this client has another number
 abbrev pub IsGone : ℕ → Open → Type 0

@@ -1,53 +1,31 @@
 -- A share that grants no lease and no durable open does the same as the plain share.
-use Rattle.std.proofs.Common.{◌≡◌, ℕ, true, false, [], ◌∷◌, ◌+◌, refl, ap, ◌∙◌, None, Some, List, Option, Bool, not, if◌then◌else◌}
+use Rattle.std.proofs.Common.{◌≡◌, ℕ, true, false, [], ◌∷◌, ◌+◌, refl, ap, sym, ◌∙◌, None, Some, List, Option, Bool, not, if◌then◌else◌}
 use Rattle.std.specs.Prelude.{map}
-use Rattle.std.specs.List.{fold}
-use Rattle.share_spec.specs.declared.connection.Grant.{Grant}
-use Rattle.share_spec.specs.declared.opens.Open.{Open}
-use Rattle.share_spec.specs.declared.create.Wanted.{Wanted}
-use Rattle.share_spec.specs.declared.place.Found.{Found}
-use Rattle.share_spec.specs.declared.place.Place.{Place}
-use Rattle.share_spec.specs.declared.place.Place.TheVariants.{NoPath, Missing, There}
-use Rattle.share_spec.specs.declared.request.Who.{Who}
-use Rattle.share_spec.specs.declared.request.Req.{Req}
-use Rattle.share_spec.specs.declared.request.Req.TheVariants as req
-use Rattle.share_spec.specs.declared.request.Rep.{Rep}
-use Rattle.share_spec.specs.declared.share.Share.{Share}
-use Rattle.share_spec.specs.Names.{components, is_name}
-use Rattle.share_spec.specs.Place.{below, place_of, root}
-use Rattle.share_spec.specs.Create.{create_at, create_of, made, opened, open_with, with_open, overwrites, refusal_of_missing, refusal_of_there, is_disposition}
-use Rattle.share_spec.specs.Reply.{unless, refused}
-use Rattle.share_spec.specs.Built.{is_built}
-use Rattle.share_spec.specs.PlainShare.{plain_wanted, plain_request}
-use Rattle.share_spec.specs.Leases.{no_granting, with_granting}
+use Rattle.share_state.specs.declared.connection.Grant.{Grant}
+use Rattle.share_state.specs.declared.opens.Open.{Open}
+use Rattle.share_state.specs.declared.wanted.Wanted.{Wanted}
+use Rattle.share_state.specs.declared.place.Found.{Found}
+use Rattle.share_state.specs.declared.place.Place.{Place}
+use Rattle.share_state.specs.declared.place.Place.TheVariants.{NoPath, Missing, There}
+use Rattle.share_state.specs.declared.request.Who.{Who}
+use Rattle.share_state.specs.declared.request.Req.{Req}
+use Rattle.share_state.specs.declared.request.Req.TheVariants as req
+use Rattle.share_state.specs.declared.request.Rep.{Rep}
+use Rattle.share_state.specs.declared.share.Share.{Share}
+use Rattle.share_state.specs.Names.{components, is_name}
+use Rattle.share_state.specs.Place.{place_of}
+use Rattle.share_state.specs.Create.{create_at, create_of, made, opened, open_with, with_open, overwrites, refusal_of_missing, refusal_of_there, is_disposition}
+use Rattle.share_state.specs.Reply.{unless, refused}
+use Rattle.share_state.specs.Built.{is_built}
+use Rattle.share_state.specs.PlainShare.{plain_wanted, plain_request}
+use Rattle.share_state.specs.Leases.{no_granting, with_granting}
 use Rattle.std.proofs.lemmas.Bool.{false≢true}
 use Rattle.std.specs.List.{list_all}
-use Rattle.share_spec.specs.State.{emptied}
-use Rattle.share_spec.specs.Close.{open_of, close_open}
-use Rattle.share_spec.specs.Query.{query_open}
-use Rattle.share_spec.specs.Step.{step_of}
+use Rattle.share_state.specs.State.{emptied}
+use Rattle.share_state.specs.Close.{open_of, close_open}
+use Rattle.share_state.specs.Step.{step_of}
 use Rattle.fs_plain.specs.Alike.{bare}
-
--- what is done, without leases and a connection
-abbrev pub bare_of : Rep × Share → Rep × Share
-bare_of done = (done.0, bare done.1)
-
-below_bare : (s : Share) (at : Place) (name : List ℕ) → below (bare s) at name ≡ below s at name
-below_bare s NoPath name = refl
-below_bare s (Missing d before) name = refl
-below_bare s (There f) name = refl
-
-walk_bare : (s : Share) (at : Place) (names : List (List ℕ)) → fold (below (bare s)) at names ≡ fold (below s) at names
-walk_bare s at [] = refl
-walk_bare s at (name ∷ names) =
-    ap (λ (p : Place). fold (below (bare s)) p names) (below_bare s at name) ∙ walk_bare s (below s at name) names
-
-place_bare : (s : Share) (names : List (List ℕ)) → place_of (bare s) names ≡ place_of s names
-place_bare s names = walk_bare s root names
-
-unless_bare : (refusal : Option ℕ) (s : Share) (done : Rep × Share) → unless refusal (bare s) (bare_of done) ≡ bare_of (unless refusal s done)
-unless_bare None s done = refl
-unless_bare (Some status) s done = refl
+use Rattle.fs_plain.proofs.Deeds.{bare_of, place_bare, unless_bare, fid_in, deed_is, deed_bare}
 
 -- the share, its node emptied where that is asked
 abbrev perhaps_emptied : Share → ℕ → Bool → Share
@@ -93,10 +71,6 @@ close_open_bare : (o : Option Open) (s : Share) → close_open o (bare s) ≡ ba
 close_open_bare None s = refl
 close_open_bare (Some o) s = refl
 
-query_open_bare : (o : Option Open) (s : Share) → query_open o (bare s) ≡ bare_of (query_open o s)
-query_open_bare None s = refl
-query_open_bare (Some o) s = refl
-
 -- every request that the machine takes does the same, whatever was chosen
 pub step_bare : (choice choice' : Option Grant) (s : Share) (who : Who) (r : Req) → is_built r ≡ true
     → step_of choice' (bare s) who (plain_request r) ≡ bare_of (step_of choice s who r)
@@ -112,18 +86,5 @@ step_bare choice choice' s who (req.Create path access share disposition options
   durable = false;
 }
 step_bare choice choice' s who (req.Close fid) built = close_open_bare (open_of s.opens who fid) s
-step_bare choice choice' s who (req.Query fid) built = query_open_bare (open_of s.opens who fid) s
-step_bare choice choice' s who (req.Flush a) built = refl
-step_bare choice choice' s who (req.Room a) built = refl
-step_bare choice choice' s who (req.Read a b c) built = refl
-step_bare choice choice' s who (req.Write a b c) built = refl
-step_bare choice choice' s who (req.Lock a b c d) built = refl
-step_bare choice choice' s who (req.Unlock a b c) built = refl
-step_bare choice choice' s who (req.List a b c) built = refl
-step_bare choice choice' s who (req.SetBasic a b) built = refl
-step_bare choice choice' s who (req.SetEnd a b) built = refl
-step_bare choice choice' s who (req.SetPending a b) built = refl
-step_bare choice choice' s who (req.Rename a b c) built = refl
-step_bare choice choice' s who (req.LinkTo a b c) built = refl
-step_bare choice choice' s who (req.Ack a b) built = refl
-step_bare choice choice' s who (req.Reclaim a b) built = refl
+step_bare choice choice' s who other built =
+    deed_is choice' (bare s) who other refl ∙ deed_bare s who other (open_of s.opens who (fid_in other)) ∙ ap bare_of (sym (deed_is choice s who other refl))

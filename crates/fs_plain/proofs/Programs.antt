@@ -7,7 +7,7 @@ use Rattle.smb_names.specs.Path.{components, path_of}
 use Rattle.fs_types.specs.declared.call.Call.{Call}
 use Rattle.fs_types.specs.declared.call.Call.TheVariants as call
 use Rattle.fs_types.specs.declared.options.Options.{Options}
-use Rattle.share_spec.specs.declared.request.Rep.{Rep}
+use Rattle.share_state.specs.declared.request.Rep.{Rep}
 use Rattle.smb_link.specs.Program.{Own, Open as Opening, Query, Close, Program, Ask, Say, map_of, of_refusal, of_errno, unless_refused, at_path}
 use Rattle.smb_link.specs.Stat.{stat_answer, stat_once_open}
 use Rattle.smb_link.specs.Calls.{program_of}

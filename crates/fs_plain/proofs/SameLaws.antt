@@ -7,10 +7,10 @@ use Rattle.fs_types.specs.declared.names.Kind.TheVariants as kind
 use Rattle.fs_types.specs.declared.answer.StatOf.{StatOf}
 use Rattle.fs_types.specs.declared.answer.Answer.{Answer}
 use Rattle.fs_types.specs.declared.answer.Answer.TheVariants as answer
-use Rattle.share_spec.specs.declared.listing.ShareName.{ShareName}
-use Rattle.share_spec.specs.declared.request.Rep.{Rep}
-use Rattle.share_spec.specs.declared.request.RepBody.{RepBody}
-use Rattle.share_spec.specs.declared.request.RepBody.TheVariants as body
+use Rattle.share_state.specs.declared.listing.ShareName.{ShareName}
+use Rattle.share_state.specs.declared.request.Rep.{Rep}
+use Rattle.share_state.specs.declared.request.RepBody.{RepBody}
+use Rattle.share_state.specs.declared.request.RepBody.TheVariants as body
 use Rattle.fs_plain.specs.Same.{same_bool, same_kind, same_names, same_stat, same_status, same_answer, same_share_name, same_share_names, same_body, same_reply}
 
 number_itself : (n : ℕ) → (n == n) ≡ true

@@ -3,33 +3,34 @@ use Rattle.std.proofs.Common.{◌≡◌, ℕ, true, false, refl, ap, sym, ◌∙
 use Rattle.std.specs.Prelude.{map, is_some, is_none}
 use Rattle.std.specs.List.{list_all}
 use Rattle.std.proofs.lemmas.Bool.{false≢true}
-use Rattle.share_spec.specs.declared.connection.Grant.{Grant}
-use Rattle.share_spec.specs.declared.opens.Open.{Open}
-use Rattle.share_spec.specs.declared.create.Wanted.{Wanted}
-use Rattle.share_spec.specs.declared.place.Place.{Place}
-use Rattle.share_spec.specs.declared.place.Place.TheVariants.{NoPath, Missing, There}
-use Rattle.share_spec.specs.declared.request.Who.{Who}
-use Rattle.share_spec.specs.declared.request.Req.{Req}
-use Rattle.share_spec.specs.declared.request.Req.TheVariants as req
-use Rattle.share_spec.specs.declared.request.Rep.{Rep}
-use Rattle.share_spec.specs.declared.request.RepBody.{RepBody}
-use Rattle.share_spec.specs.declared.request.RepBody.TheVariants as body
-use Rattle.share_spec.specs.declared.share.Share.{Share}
-use Rattle.share_spec.specs.Built.{is_built}
-use Rattle.share_spec.specs.Leases.{no_granting}
-use Rattle.share_spec.specs.Names.{components, is_name}
-use Rattle.share_spec.specs.PlainShare.{plain_wanted}
-use Rattle.share_spec.specs.State.{emptied}
-use Rattle.share_spec.specs.Reply.{unless, refused}
-use Rattle.share_spec.specs.Place.{place_of}
-use Rattle.share_spec.specs.Create.{create_at, create_of, made, opened, overwrites, refusal_of_missing, refusal_of_there, is_disposition}
-use Rattle.share_spec.specs.Close.{open_of, close_open}
-use Rattle.share_spec.specs.Query.{query_open}
-use Rattle.share_spec.specs.Step.{step_of}
+use Rattle.share_state.specs.declared.connection.Grant.{Grant}
+use Rattle.share_state.specs.declared.lease.Lease.{Lease}
+use Rattle.share_state.specs.declared.opens.Open.{Open}
+use Rattle.share_state.specs.declared.wanted.Wanted.{Wanted}
+use Rattle.share_state.specs.declared.place.Place.{Place}
+use Rattle.share_state.specs.declared.place.Place.TheVariants.{NoPath, Missing, There}
+use Rattle.share_state.specs.declared.request.Who.{Who}
+use Rattle.share_state.specs.declared.request.Req.{Req}
+use Rattle.share_state.specs.declared.request.Req.TheVariants as req
+use Rattle.share_state.specs.declared.request.Rep.{Rep}
+use Rattle.share_state.specs.declared.request.RepBody.{RepBody}
+use Rattle.share_state.specs.declared.request.RepBody.TheVariants as body
+use Rattle.share_state.specs.declared.share.Share.{Share}
+use Rattle.share_state.specs.Built.{is_built}
+use Rattle.share_state.specs.Leases.{no_granting}
+use Rattle.share_state.specs.Names.{components, is_name}
+use Rattle.share_state.specs.PlainShare.{plain_wanted}
+use Rattle.share_state.specs.State.{emptied}
+use Rattle.share_state.specs.Reply.{unless, refused}
+use Rattle.share_state.specs.Place.{place_of}
+use Rattle.share_state.specs.Create.{create_at, create_of, made, opened, overwrites, refusal_of_missing, refusal_of_there, is_disposition}
+use Rattle.share_state.specs.Close.{open_of, close_open}
+use Rattle.share_state.specs.Step.{step_of}
 use Rattle.fs_plain.specs.World.{is_creating}
 use Rattle.fs_plain.specs.Paired.{opened_number, NamesIn, open_given}
 use Rattle.fs_plain.specs.Alike.{HasNoLeaseOfOurs}
 use Rattle.fs_plain.proofs.Opens.{Creates, create_creates}
+use Rattle.fs_plain.proofs.Deeds.{step_deed}
 use Rattle.fs_plain.proofs.Steps.{step_names}
 use Rattle.fs_plain.proofs.AlikeLaws.{close_ours}
 
@@ -74,31 +75,13 @@ close_gives : (o : Option Open) (s : Share) → gives false (close_open o s).0 �
 close_gives None s = refl
 close_gives (Some o) s = refl
 
-query_gives : (o : Option Open) (s : Share) → gives false (query_open o s).0 ≡ true
-query_gives None s = refl
-query_gives (Some o) s = refl
-
 pub step_gives : (choice : Option Grant) (s : Share) (who : Who) (r : Req) → gives (is_creating r) (step_of choice s who r).0 ≡ true
 step_gives choice s who (req.Create path access share disposition options attributes lease durable) =
     create_gives s who (step_of choice s who (req.Create path access share disposition options attributes lease durable))
     (step_names choice s who (req.Create path access share disposition options attributes lease durable))
     (step_creates choice s who (req.Create path access share disposition options attributes lease durable) refl)
 step_gives choice s who (req.Close fid) = close_gives (open_of s.opens who fid) s
-step_gives choice s who (req.Query fid) = query_gives (open_of s.opens who fid) s
-step_gives choice s who (req.Flush a) = refl
-step_gives choice s who (req.Room a) = refl
-step_gives choice s who (req.Read a b c) = refl
-step_gives choice s who (req.Write a b c) = refl
-step_gives choice s who (req.Lock a b c d) = refl
-step_gives choice s who (req.Unlock a b c) = refl
-step_gives choice s who (req.List a b c) = refl
-step_gives choice s who (req.SetBasic a b) = refl
-step_gives choice s who (req.SetEnd a b) = refl
-step_gives choice s who (req.SetPending a b) = refl
-step_gives choice s who (req.Rename a b c) = refl
-step_gives choice s who (req.LinkTo a b c) = refl
-step_gives choice s who (req.Ack a b) = refl
-step_gives choice s who (req.Reclaim a b) = refl
+step_gives choice s who other = (step_deed choice s who other refl).gives
 
 -- no lease of ours comes of a request that wants none, whoever asks
 unless_ours : (refusal : Option ℕ) (s : Share) (done : Rep × Share) → HasNoLeaseOfOurs s → HasNoLeaseOfOurs done.1 → HasNoLeaseOfOurs (unless refusal s done).1
@@ -124,9 +107,8 @@ create_ours choice s who path w none = by (is_disposition w.disposition) (list_a
     by true false = none
     by true true = create_at_ours choice s who w (place_of s (components path)) none
 
-query_ours : (o : Option Open) (s : Share) → HasNoLeaseOfOurs s → HasNoLeaseOfOurs (query_open o s).1
-query_ours None s none = none
-query_ours (Some o) s none = none
+leases_ours : (s : Share) (done : Rep × Share) → done.1.leases ≡ s.leases → HasNoLeaseOfOurs s → HasNoLeaseOfOurs done.1
+leases_ours s done same none = ap (λ (leases : List Lease). list_all (λ (l : Lease). not (l.who.0 == 0)) leases) same ∙ none
 
 pub step_ours : (choice : Option Grant) (s : Share) (who : Who) (r : Req) → is_built r ≡ true → HasNoLeaseOfOurs s → HasNoLeaseOfOurs (step_of choice s who r).1
 step_ours choice s who (req.Create path access share disposition options attributes (Some wish) durable) built none = absurd (false≢true built)
@@ -141,18 +123,4 @@ step_ours choice s who (req.Create path access share disposition options attribu
   durable = false;
 }) none
 step_ours choice s who (req.Close fid) built none = close_ours (open_of s.opens who fid) s none
-step_ours choice s who (req.Query fid) built none = query_ours (open_of s.opens who fid) s none
-step_ours choice s who (req.Flush a) built none = none
-step_ours choice s who (req.Room a) built none = none
-step_ours choice s who (req.Read a b c) built none = none
-step_ours choice s who (req.Write a b c) built none = none
-step_ours choice s who (req.Lock a b c d) built none = none
-step_ours choice s who (req.Unlock a b c) built none = none
-step_ours choice s who (req.List a b c) built none = none
-step_ours choice s who (req.SetBasic a b) built none = none
-step_ours choice s who (req.SetEnd a b) built none = none
-step_ours choice s who (req.SetPending a b) built none = none
-step_ours choice s who (req.Rename a b c) built none = none
-step_ours choice s who (req.LinkTo a b c) built none = none
-step_ours choice s who (req.Ack a b) built none = none
-step_ours choice s who (req.Reclaim a b) built none = none
+step_ours choice s who other built none = leases_ours s (step_of choice s who other) (step_deed choice s who other refl).leases none

@@ -1,37 +1,35 @@
 -- What a request does to the numbers of opens.
-use Rattle.std.proofs.Common.{rules, ◌≡◌, ℕ, true, false, [], ◌∷◌, ◌++◌, ◌+◌, ◌≤◌, refl, inl, inr, None, Some, List, Option, Bool, ◌==◌, not, if◌then◌else◌}
+use Rattle.std.proofs.Common.{rules, ◌≡◌, ℕ, true, false, [], ◌∷◌, ◌++◌, ◌+◌, ◌≤◌, refl, ap, sym, subst, ◌∙◌, inl, inr, None, Some, List, Option, Bool, ◌==◌, not, if◌then◌else◌}
 use Rattle.std.specs.Prelude.{map, filter, ◌⊎◌}
 use Rattle.std.specs.List.{AllByRecursion, list_all}
 use Rattle.std.proofs.lemmas.Bool.{false≢true}
-use Rattle.share_spec.specs.declared.connection.Grant.{Grant}
-use Rattle.share_spec.specs.declared.granting.Granting.{Granting}
-use Rattle.share_spec.specs.declared.opens.Open.{Open}
-use Rattle.share_spec.specs.declared.create.Wanted.{Wanted}
-use Rattle.share_spec.specs.declared.place.Found.{Found}
-use Rattle.share_spec.specs.declared.place.Place.{Place}
-use Rattle.share_spec.specs.declared.place.Place.TheVariants.{NoPath, Missing, There}
-use Rattle.share_spec.specs.declared.request.Who.{Who}
-use Rattle.share_spec.specs.declared.request.Req.{Req}
-use Rattle.share_spec.specs.declared.request.Req.TheVariants as req
-use Rattle.share_spec.specs.declared.request.Rep.{Rep}
-use Rattle.share_spec.specs.declared.share.Share.{Share}
-use Rattle.share_spec.specs.Names.{components, is_name}
-use Rattle.share_spec.specs.State.{emptied}
-use Rattle.share_spec.specs.Reply.{unless, refused}
-use Rattle.share_spec.specs.Place.{place_of}
-use Rattle.share_spec.specs.Leases.{no_granting, granting_of, with_granting}
-use Rattle.share_spec.specs.Built.{is_built}
-use Rattle.share_spec.specs.PlainShare.{plain_wanted}
-use Rattle.share_spec.specs.Create.{create_at, create_of, made, opened, open_with, with_open, overwrites, refusal_of_missing, refusal_of_there, is_disposition}
-use Rattle.share_spec.specs.declared.lease.Lease.{Lease}
-use Rattle.share_spec.specs.declared.connection.Sent.{Sent}
-use Rattle.share_spec.specs.declared.connection.Owed.{Owed}
-use Rattle.share_spec.specs.Close.{open_of, close_open, closed, kept_leases}
-use Rattle.share_spec.specs.Query.{query_open}
-use Rattle.share_spec.specs.Step.{step_of}
+use Rattle.share_state.specs.declared.connection.Grant.{Grant}
+use Rattle.share_state.specs.declared.granting.Granting.{Granting}
+use Rattle.share_state.specs.declared.opens.Open.{Open}
+use Rattle.share_state.specs.declared.wanted.Wanted.{Wanted}
+use Rattle.share_state.specs.declared.place.Found.{Found}
+use Rattle.share_state.specs.declared.place.Place.{Place}
+use Rattle.share_state.specs.declared.place.Place.TheVariants.{NoPath, Missing, There}
+use Rattle.share_state.specs.declared.request.Who.{Who}
+use Rattle.share_state.specs.declared.request.Req.{Req}
+use Rattle.share_state.specs.declared.request.Req.TheVariants as req
+use Rattle.share_state.specs.declared.request.Rep.{Rep}
+use Rattle.share_state.specs.declared.share.Share.{Share}
+use Rattle.share_state.specs.Names.{components, is_name}
+use Rattle.share_state.specs.State.{emptied}
+use Rattle.share_state.specs.Reply.{unless, refused}
+use Rattle.share_state.specs.Place.{place_of}
+use Rattle.share_state.specs.Leases.{no_granting, granting_of, with_granting}
+use Rattle.share_state.specs.Built.{is_built}
+use Rattle.share_state.specs.PlainShare.{plain_wanted}
+use Rattle.share_state.specs.Create.{create_at, create_of, made, opened, open_with, with_open, overwrites, refusal_of_missing, refusal_of_there, is_disposition}
+use Rattle.share_state.specs.declared.lease.Lease.{Lease}
+use Rattle.share_state.specs.Close.{open_of, close_open, closed, kept_leases}
+use Rattle.share_state.specs.Step.{step_of}
 use Rattle.fs_plain.specs.Paired.{opened_number, Names}
 use Rattle.fs_plain.specs.Alike.{IsStanding, IsAnother, AreApart, AreStanding}
 use Rattle.fs_plain.proofs.Every.{every-snoc, every-filter, every-more}
+use Rattle.fs_plain.proofs.Deeds.{connection, whole_listing, IsDeed, step_deed, every_listing}
 
 -- what was done gave no open and made none, or gave the one that it made, which has the next number
 abbrev pub Counts : Share → Rep × Share → Type 0
@@ -70,10 +68,6 @@ close_counts : (o : Option Open) (s : Share) → Counts s (close_open o s)
 close_counts None s = inl (refl, refl)
 close_counts (Some o) s = inl (refl, refl)
 
-query_counts : (o : Option Open) (s : Share) → Counts s (query_open o s)
-query_counts None s = inl (refl, refl)
-query_counts (Some o) s = inl (refl, refl)
-
 pub step_counts : (choice : Option Grant) (s : Share) (who : Who) (r : Req) → Counts s (step_of choice s who r)
 step_counts choice s who (req.Create path access share disposition options attributes lease durable) = create_counts choice s who path record {
   access = access;
@@ -85,32 +79,7 @@ step_counts choice s who (req.Create path access share disposition options attri
   durable = durable;
 }
 step_counts choice s who (req.Close fid) = close_counts (open_of s.opens who fid) s
-step_counts choice s who (req.Query fid) = query_counts (open_of s.opens who fid) s
-step_counts choice s who (req.Flush a) = inl (refl, refl)
-step_counts choice s who (req.Room a) = inl (refl, refl)
-step_counts choice s who (req.Read a b c) = inl (refl, refl)
-step_counts choice s who (req.Write a b c) = inl (refl, refl)
-step_counts choice s who (req.Lock a b c d) = inl (refl, refl)
-step_counts choice s who (req.Unlock a b c) = inl (refl, refl)
-step_counts choice s who (req.List a b c) = inl (refl, refl)
-step_counts choice s who (req.SetBasic a b) = inl (refl, refl)
-step_counts choice s who (req.SetEnd a b) = inl (refl, refl)
-step_counts choice s who (req.SetPending a b) = inl (refl, refl)
-step_counts choice s who (req.Rename a b c) = inl (refl, refl)
-step_counts choice s who (req.LinkTo a b c) = inl (refl, refl)
-step_counts choice s who (req.Ack a b) = inl (refl, refl)
-step_counts choice s who (req.Reclaim a b) = inl (refl, refl)
-
--- what a request leaves as it is: the connection
-pub record Connection : Type 0 where
-  pub connected : Bool
-  pub sent : List Sent
-  pub owed : List Owed
-  pub held : List ℕ
-  pub grants : List (Option Grant)
-
-abbrev pub connection : Share → Connection
-connection s = record { connected = s.connected; sent = s.sent; owed = s.owed; held = s.held; grants = s.grants }
+step_counts choice s who other = let deed : IsDeed s (step_of choice s who other) = step_deed choice s who other refl in inl (deed.number, deed.made)
 
 -- it leaves the connection alone
 abbrev pub LeavesConnection : Share → Rep × Share → Type 0
@@ -149,10 +118,6 @@ close_connection : (o : Option Open) (s : Share) → LeavesConnection s (close_o
 close_connection None s = refl
 close_connection (Some o) s = refl
 
-query_connection : (o : Option Open) (s : Share) → LeavesConnection s (query_open o s)
-query_connection None s = refl
-query_connection (Some o) s = refl
-
 pub step_connection : (choice : Option Grant) (s : Share) (who : Who) (r : Req) → LeavesConnection s (step_of choice s who r)
 step_connection choice s who (req.Create path access share disposition options attributes lease durable) = create_connection choice s who path record {
   access = access;
@@ -164,21 +129,7 @@ step_connection choice s who (req.Create path access share disposition options a
   durable = durable;
 }
 step_connection choice s who (req.Close fid) = close_connection (open_of s.opens who fid) s
-step_connection choice s who (req.Query fid) = query_connection (open_of s.opens who fid) s
-step_connection choice s who (req.Flush a) = refl
-step_connection choice s who (req.Room a) = refl
-step_connection choice s who (req.Read a b c) = refl
-step_connection choice s who (req.Write a b c) = refl
-step_connection choice s who (req.Lock a b c d) = refl
-step_connection choice s who (req.Unlock a b c) = refl
-step_connection choice s who (req.List a b c) = refl
-step_connection choice s who (req.SetBasic a b) = refl
-step_connection choice s who (req.SetEnd a b) = refl
-step_connection choice s who (req.SetPending a b) = refl
-step_connection choice s who (req.Rename a b c) = refl
-step_connection choice s who (req.LinkTo a b c) = refl
-step_connection choice s who (req.Ack a b) = refl
-step_connection choice s who (req.Reclaim a b) = refl
+step_connection choice s who other = (step_deed choice s who other refl).connection
 
 -- a share without leases stays one, where none is wanted
 abbrev pub GrantsNoLease : Share → Rep × Share → Type 0
@@ -217,10 +168,6 @@ close_no_lease : (o : Option Open) (s : Share) → GrantsNoLease s (close_open o
 close_no_lease None s = λ none. none
 close_no_lease (Some o) s = kept_none (closed o s).opens s.leases
 
-query_no_lease : (o : Option Open) (s : Share) → GrantsNoLease s (query_open o s)
-query_no_lease None s = λ none. none
-query_no_lease (Some o) s = λ none. none
-
 pub step_leases : (choice : Option Grant) (s : Share) (who : Who) (r : Req) → is_built r ≡ true → GrantsNoLease s (step_of choice s who r)
 step_leases choice s who (req.Create path access share disposition options attributes (Some wish) durable) built = absurd (false≢true built)
 step_leases choice s who (req.Create path access share disposition options attributes None true) built = absurd (false≢true built)
@@ -234,21 +181,7 @@ step_leases choice s who (req.Create path access share disposition options attri
   durable = false;
 }
 step_leases choice s who (req.Close fid) built = close_no_lease (open_of s.opens who fid) s
-step_leases choice s who (req.Query fid) built = query_no_lease (open_of s.opens who fid) s
-step_leases choice s who (req.Flush a) built = λ none. none
-step_leases choice s who (req.Room a) built = λ none. none
-step_leases choice s who (req.Read a b c) built = λ none. none
-step_leases choice s who (req.Write a b c) built = λ none. none
-step_leases choice s who (req.Lock a b c d) built = λ none. none
-step_leases choice s who (req.Unlock a b c) built = λ none. none
-step_leases choice s who (req.List a b c) built = λ none. none
-step_leases choice s who (req.SetBasic a b) built = λ none. none
-step_leases choice s who (req.SetEnd a b) built = λ none. none
-step_leases choice s who (req.SetPending a b) built = λ none. none
-step_leases choice s who (req.Rename a b c) built = λ none. none
-step_leases choice s who (req.LinkTo a b c) built = λ none. none
-step_leases choice s who (req.Ack a b) built = λ none. none
-step_leases choice s who (req.Reclaim a b) built = λ none. none
+step_leases choice s who other built = λ none. (step_deed choice s who other refl).leases ∙ none
 
 abbrev pub KeepsNumbers : Share → Rep × Share → Type 0
 KeepsNumbers s done = AreStanding s → AreStanding done.1
@@ -320,9 +253,28 @@ close_numbers (Some o) s = (λ all. (
   apart_filter (λ q. not (q.number == o.number)) s.opens all.1,
 ))
 
-query_numbers : (o : Option Open) (s : Share) → KeepsNumbers s (query_open o s)
-query_numbers None s = (λ all. all)
-query_numbers (Some o) s = (λ all. all)
+deed_numbers : (s : Share) (done : Rep × Share) → IsDeed s done → KeepsNumbers s done
+deed_numbers s done deed all = (
+  every_listing (IsStanding done.1.opens_made) (λ o is. is) (λ o is. is) done.1.opens s.opens deed.opens
+      (subst (λ (n : ℕ). AllByRecursion (IsStanding n) s.opens) (sym deed.made) all.0),
+  apart_back done.1.opens (subst AreApart (sym deed.opens) (apart_forth s.opens all.1)),
+)
+  where
+    forth : (o : Open) (qs : List Open) → AllByRecursion (IsAnother o) qs → AllByRecursion (IsAnother (whole_listing o)) (map whole_listing qs)
+    forth o [] all = tt
+    forth o (q ∷ qs) all = (all.0, forth o qs all.1)
+
+    back : (o : Open) (qs : List Open) → AllByRecursion (IsAnother (whole_listing o)) (map whole_listing qs) → AllByRecursion (IsAnother o) qs
+    back o [] all = tt
+    back o (q ∷ qs) all = (all.0, back o qs all.1)
+
+    apart_forth : (os : List Open) → AreApart os → AreApart (map whole_listing os)
+    apart_forth [] apart = record {}
+    apart_forth (o ∷ os) apart = (forth o os apart.0, apart_forth os apart.1)
+
+    apart_back : (os : List Open) → AreApart (map whole_listing os) → AreApart os
+    apart_back [] apart = record {}
+    apart_back (o ∷ os) apart = (back o os apart.0, apart_back os apart.1)
 
 pub step_numbers : (choice : Option Grant) (s : Share) (who : Who) (r : Req) → is_built r ≡ true → KeepsNumbers s (step_of choice s who r)
 step_numbers choice s who (req.Create path access share disposition options attributes (Some wish) durable) built = absurd (false≢true built)
@@ -337,21 +289,7 @@ step_numbers choice s who (req.Create path access share disposition options attr
   durable = false;
 }
 step_numbers choice s who (req.Close fid) built = close_numbers (open_of s.opens who fid) s
-step_numbers choice s who (req.Query fid) built = query_numbers (open_of s.opens who fid) s
-step_numbers choice s who (req.Flush a) built = (λ all. all)
-step_numbers choice s who (req.Room a) built = (λ all. all)
-step_numbers choice s who (req.Read a b c) built = (λ all. all)
-step_numbers choice s who (req.Write a b c) built = (λ all. all)
-step_numbers choice s who (req.Lock a b c d) built = (λ all. all)
-step_numbers choice s who (req.Unlock a b c) built = (λ all. all)
-step_numbers choice s who (req.List a b c) built = (λ all. all)
-step_numbers choice s who (req.SetBasic a b) built = (λ all. all)
-step_numbers choice s who (req.SetEnd a b) built = (λ all. all)
-step_numbers choice s who (req.SetPending a b) built = (λ all. all)
-step_numbers choice s who (req.Rename a b c) built = (λ all. all)
-step_numbers choice s who (req.LinkTo a b c) built = (λ all. all)
-step_numbers choice s who (req.Ack a b) built = (λ all. all)
-step_numbers choice s who (req.Reclaim a b) built = (λ all. all)
+step_numbers choice s who other built = deed_numbers s (step_of choice s who other) (step_deed choice s who other refl)
 
 -- a request's reply names its open by the number in both halves
 pub no_zero : (n : ℕ) → (n + 1 == 0) ≡ false
@@ -380,10 +318,6 @@ close_names : (o : Option Open) (s : Share) → Names (close_open o s).0
 close_names None s = record {}
 close_names (Some o) s = record {}
 
-query_names : (o : Option Open) (s : Share) → Names (query_open o s).0
-query_names None s = record {}
-query_names (Some o) s = record {}
-
 pub step_names : (choice : Option Grant) (s : Share) (who : Who) (r : Req) → Names (step_of choice s who r).0
 step_names choice s who (req.Create path access share disposition options attributes lease durable) = create_names choice s who path record {
   access = access;
@@ -395,18 +329,4 @@ step_names choice s who (req.Create path access share disposition options attrib
   durable = durable;
 }
 step_names choice s who (req.Close fid) = close_names (open_of s.opens who fid) s
-step_names choice s who (req.Query fid) = query_names (open_of s.opens who fid) s
-step_names choice s who (req.Flush a) = record {}
-step_names choice s who (req.Room a) = record {}
-step_names choice s who (req.Read a b c) = record {}
-step_names choice s who (req.Write a b c) = record {}
-step_names choice s who (req.Lock a b c d) = record {}
-step_names choice s who (req.Unlock a b c) = record {}
-step_names choice s who (req.List a b c) = record {}
-step_names choice s who (req.SetBasic a b) = record {}
-step_names choice s who (req.SetEnd a b) = record {}
-step_names choice s who (req.SetPending a b) = record {}
-step_names choice s who (req.Rename a b c) = record {}
-step_names choice s who (req.LinkTo a b c) = record {}
-step_names choice s who (req.Ack a b) = record {}
-step_names choice s who (req.Reclaim a b) = record {}
+step_names choice s who other = (step_deed choice s who other refl).names

@@ -12,8 +12,8 @@ use Rattle.smb_body_b.specs.Create.{CreateRequestValue, create_request_of}
 use Rattle.smb_body_b.specs.Contexts.{read_of}
 use Rattle.smb_body_c.specs.declared.info.QueryInfoRequest.{QueryInfoRequest}
 use Rattle.smb_body_c.specs.Info.{query_info_request_of}
-use Rattle.share_spec.specs.declared.request.Req.{Req}
-use Rattle.share_spec.specs.State.{has}
+use Rattle.share_state.specs.declared.request.Req.{Req}
+use Rattle.share_state.specs.State.{has}
 use Rattle.fs_plain.specs.Masked.{Untold, Nothing, NumberAndMark, Durability, untold_of_class, untold_of_contexts, untold_with, untold}
 use Rattle.fs_plain.specs.Requests.{WireRequest, create_with, create_asked, asked_with, wire_request}
 

@@ -7,9 +7,9 @@ use Rattle.smb_head.specs.declared.head.HeadFault.{HeadFault}
 use Rattle.smb_head.specs.Header.{head_of, is_interim}
 use Rattle.smb_head.specs.Stream.{frames_in, rest_in}
 use Rattle.smb_chain.specs.declared.parts.BadNext.{BadNext}
-use Rattle.share_spec.specs.declared.connection.Grant.{Grant}
-use Rattle.share_spec.specs.declared.request.RepBody.{RepBody}
-use Rattle.share_spec.specs.State.{has}
+use Rattle.share_state.specs.declared.connection.Grant.{Grant}
+use Rattle.share_state.specs.declared.request.RepBody.{RepBody}
+use Rattle.share_state.specs.State.{has}
 use Rattle.smb_link.specs.declared.event.Event.{Event}
 use Rattle.smb_link.specs.declared.event.Event.TheVariants as event
 use Rattle.fs_plain.specs.Masked.{Nothing}

@@ -3,9 +3,9 @@
 -- leases and postponed closes it says less, and its laws stay.
 use Rattle.std.specs.Prelude.{◌≡◌, ℕ, ◌==◌, true, not, [], ◌≤◌, ◌<◌, false, List, ◌∷◌}
 use Rattle.std.specs.List.{list_all, AllByRecursion}
-use Rattle.share_spec.specs.declared.lease.Lease.{Lease}
-use Rattle.share_spec.specs.declared.share.Share.{Share}
-use Rattle.share_spec.specs.declared.opens.Open.{Open}
+use Rattle.share_state.specs.declared.lease.Lease.{Lease}
+use Rattle.share_state.specs.declared.share.Share.{Share}
+use Rattle.share_state.specs.declared.opens.Open.{Open}
 use Rattle.fs_plain.specs.Paired.{Pair, plain_of_real}
 use Rattle.fs_plain.specs.PlainSide.{PlainSide}
 

@@ -5,15 +5,15 @@ use Rattle.smb_base.specs.declared.names.Fid.{Fid}
 use Rattle.smb_base.specs.declared.names.Mid.{Mid}
 use Rattle.smb_chain.specs.declared.parts.BadNext.{BadNext}
 use Rattle.fs_types.specs.declared.call.Call.{Call}
-use Rattle.share_spec.specs.declared.opens.Open.{Open}
-use Rattle.share_spec.specs.declared.request.Req.{Req}
-use Rattle.share_spec.specs.declared.request.Rep.{Rep}
-use Rattle.share_spec.specs.declared.share.Share.{Share}
-use Rattle.share_spec.specs.State.{Making}
-use Rattle.share_spec.specs.Reply.{fid_of, map_fid}
-use Rattle.share_spec.specs.PlainShare.{plain_step}
-use Rattle.share_spec.specs.Close.{closed}
-use Rattle.share_spec.specs.declared.request.Req.TheVariants as req
+use Rattle.share_state.specs.declared.opens.Open.{Open}
+use Rattle.share_state.specs.declared.request.Req.{Req}
+use Rattle.share_state.specs.declared.request.Rep.{Rep}
+use Rattle.share_state.specs.declared.share.Share.{Share}
+use Rattle.share_state.specs.State.{Making}
+use Rattle.share_state.specs.Reply.{fid_of, map_fid}
+use Rattle.share_state.specs.PlainShare.{plain_step}
+use Rattle.share_state.specs.Close.{closed}
+use Rattle.share_state.specs.declared.request.Req.TheVariants as req
 use Rattle.smb_link.specs.declared.event.Event.{Event}
 use Rattle.smb_link.specs.declared.event.Event.TheVariants as event
 use Rattle.smb_link.specs.declared.mark.Mark.{Mark}

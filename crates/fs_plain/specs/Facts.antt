@@ -7,7 +7,7 @@ use Rattle.smb_head.specs.Header.{head_of}
 use Rattle.smb_field.specs.Rows.{if_read}
 use Rattle.smb_body_a.specs.Negotiate.{NegotiateReplyValue, negotiate_reply_of}
 use Rattle.smb_chain.specs.declared.parts.BadNext.{BadNext}
-use Rattle.share_spec.specs.State.{has}
+use Rattle.share_state.specs.State.{has}
 use Rattle.smb_link.specs.Locals.{no_locals}
 use Rattle.smb_link.specs.Program.{ServerFacts, Known}
 

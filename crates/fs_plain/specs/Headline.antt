@@ -1,7 +1,7 @@
 -- What a run promises of a story that is told whole.
 use Rattle.std.specs.Prelude.{◌≡◌, ℕ, List, Option, Some, None}
 use Rattle.fs_types.specs.declared.options.Options.{Options}
-use Rattle.share_spec.specs.State.{Making}
+use Rattle.share_state.specs.State.{Making}
 use Rattle.smb_link.specs.declared.event.Event.{Event}
 use Rattle.fs_plain.specs.Honest.{IsHonest}
 use Rattle.fs_plain.specs.Run.{run_of}

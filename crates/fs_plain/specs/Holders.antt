@@ -1,7 +1,7 @@
 -- Whose each open of this client is: each that stands has a holder who will close it, or who keeps it for a user.
 use Rattle.std.specs.Prelude.{◌≡◌, ◌⊎◌, ℕ, ◌==◌, true, false, List, [], ◌∷◌, length, Some}
 use Rattle.std.specs.List.{AllByRecursion, list_any}
-use Rattle.share_spec.specs.declared.opens.Open.{Open}
+use Rattle.share_state.specs.declared.opens.Open.{Open}
 use Rattle.fs_plain.specs.Tidy.{WillClose, Tidies}
 use Rattle.fs_plain.specs.PlainSide.{PlainCall, PlainSide, nth_open}
 

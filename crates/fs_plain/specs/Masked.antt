@@ -10,9 +10,9 @@ use Rattle.smb_body_b.specs.declared.contexts.ContextSet.{ContextSet}
 use Rattle.smb_body_b.specs.Create.{create_request_of}
 use Rattle.smb_body_b.specs.Contexts.{read_of}
 use Rattle.smb_body_c.specs.Info.{query_info_request_of}
-use Rattle.share_spec.specs.declared.request.RepBody.{RepBody}
-use Rattle.share_spec.specs.declared.request.RepBody.TheVariants as body
-use Rattle.share_spec.specs.declared.request.Rep.{Rep}
+use Rattle.share_state.specs.declared.request.RepBody.{RepBody}
+use Rattle.share_state.specs.declared.request.RepBody.TheVariants as body
+use Rattle.share_state.specs.declared.request.Rep.{Rep}
 
 -- what a reply leaves out: nothing; the number of a file and its read-only mark; whether an open is durable
 pub data Untold : Type 0 where

@@ -4,9 +4,9 @@ use Rattle.fs_types.specs.declared.answer.Answer.{Answer}
 use Rattle.fs_types.specs.declared.call.Call.{Call}
 use Rattle.fs_types.specs.declared.call.Call.TheVariants as call
 use Rattle.fs_types.specs.declared.answer.Answer.TheVariants as answer
-use Rattle.share_spec.specs.declared.request.Rep.{Rep}
-use Rattle.share_spec.specs.declared.share.Share.{Share}
-use Rattle.share_spec.specs.PlainShare.{shown}
+use Rattle.share_state.specs.declared.request.Rep.{Rep}
+use Rattle.share_state.specs.declared.share.Share.{Share}
+use Rattle.share_state.specs.PlainShare.{shown}
 use Rattle.smb_link.specs.Program.{Open as Opening, Query, Close, File, Program, Known, Ask, Look, Say}
 use Rattle.fs_plain.specs.Run.{Run, ended_by}
 use Rattle.fs_plain.specs.Differences.{Difference, odd}

@@ -4,11 +4,11 @@ use Rattle.std.specs.Prelude.{ℕ, zero, suc, unwrap_or, ◌==◌, Bool, false, 
 use Rattle.smb_base.specs.declared.names.Fid.{Fid}
 use Rattle.fs_types.specs.declared.call.Call.{Call}
 use Rattle.fs_types.specs.declared.call.Call.TheVariants as call
-use Rattle.share_spec.specs.declared.request.Rep.{Rep}
-use Rattle.share_spec.specs.declared.share.Share.{Share}
-use Rattle.share_spec.specs.State.{Making, fresh_share}
-use Rattle.share_spec.specs.Reply.{fid_of}
-use Rattle.share_spec.specs.PlainShare.{plain_share, plain_step}
+use Rattle.share_state.specs.declared.request.Rep.{Rep}
+use Rattle.share_state.specs.declared.share.Share.{Share}
+use Rattle.share_state.specs.State.{Making, fresh_share}
+use Rattle.share_state.specs.Reply.{fid_of}
+use Rattle.share_state.specs.PlainShare.{plain_share, plain_step}
 use Rattle.smb_link.specs.declared.event.Event.{Event}
 use Rattle.smb_link.specs.declared.event.Event.TheVariants as event
 use Rattle.smb_link.specs.declared.mark.Mark.TheVariants as mark

@@ -2,16 +2,16 @@
 use Rattle.std.specs.Prelude.{ℕ, ◌==◌, Bool, true, false, ◌&&◌, ◌||◌, if◌then◌else◌, List, ◌++◌, length, Option, Some, None, is_some, is_none}
 use Rattle.std.specs.List.{list_any}
 use Rattle.smb_base.specs.declared.names.Mid.{Mid}
-use Rattle.share_spec.specs.declared.connection.Sent.{Sent}
-use Rattle.share_spec.specs.declared.opens.Open.{Open}
-use Rattle.share_spec.specs.declared.request.Req.{Req}
-use Rattle.share_spec.specs.declared.request.Req.TheVariants as req
-use Rattle.share_spec.specs.declared.request.Rep.{Rep}
-use Rattle.share_spec.specs.declared.share.Share.{Share}
-use Rattle.share_spec.specs.Reply.{fid_of}
-use Rattle.share_spec.specs.Close.{open_of}
-use Rattle.share_spec.specs.PlainShare.{plain_step, shown}
-use Rattle.share_spec.specs.Sent.{sent_with}
+use Rattle.share_state.specs.declared.connection.Sent.{Sent}
+use Rattle.share_state.specs.declared.opens.Open.{Open}
+use Rattle.share_state.specs.declared.request.Req.{Req}
+use Rattle.share_state.specs.declared.request.Req.TheVariants as req
+use Rattle.share_state.specs.declared.request.Rep.{Rep}
+use Rattle.share_state.specs.declared.share.Share.{Share}
+use Rattle.share_state.specs.Reply.{fid_of}
+use Rattle.share_state.specs.Close.{open_of}
+use Rattle.share_state.specs.PlainShare.{plain_step, shown}
+use Rattle.share_state.specs.Sent.{sent_with}
 use Rattle.smb_link.specs.Program.{Wish, Program, Known, Ask, Look, Say, settled}
 use Rattle.fs_plain.specs.Masked.{Untold, untold, told_of}
 use Rattle.fs_plain.specs.Requests.{WireRequest, wire_request}

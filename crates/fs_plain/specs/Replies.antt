@@ -25,12 +25,12 @@ use Rattle.smb_body_c.specs.Lease.{lease_break_of}
 use Rattle.smb_info.specs.declared.attributes.All.{All}
 use Rattle.smb_info.specs.declared.attributes.Standard.{Standard}
 use Rattle.smb_info.specs.Attributes.{all_of, standard_of}
-use Rattle.share_spec.specs.declared.connection.Owed.{Owed}
-use Rattle.share_spec.specs.declared.connection.Owed.TheVariants as owed
-use Rattle.share_spec.specs.declared.request.Rep.{Rep}
-use Rattle.share_spec.specs.declared.request.RepBody.{RepBody}
-use Rattle.share_spec.specs.declared.request.RepBody.TheVariants as body
-use Rattle.share_spec.specs.State.{has}
+use Rattle.share_state.specs.declared.connection.Owed.{Owed}
+use Rattle.share_state.specs.declared.connection.Owed.TheVariants as owed
+use Rattle.share_state.specs.declared.request.Rep.{Rep}
+use Rattle.share_state.specs.declared.request.RepBody.{RepBody}
+use Rattle.share_state.specs.declared.request.RepBody.TheVariants as body
+use Rattle.share_state.specs.State.{has}
 use Rattle.fs_plain.specs.Masked.{Untold, NumberAndMark, untold, without, masked}
 
 -- the command of a request

@@ -18,10 +18,10 @@ use Rattle.smb_body_b.specs.Create.{CreateRequestValue, create_request_of}
 use Rattle.smb_body_b.specs.Contexts.{read_of}
 use Rattle.smb_body_c.specs.declared.info.QueryInfoRequest.{QueryInfoRequest}
 use Rattle.smb_body_c.specs.Info.{query_info_request_of}
-use Rattle.share_spec.specs.declared.request.Req.{Req}
-use Rattle.share_spec.specs.declared.request.Req.TheVariants as req
-use Rattle.share_spec.specs.State.{has}
-use Rattle.share_spec.specs.Built.{is_built}
+use Rattle.share_state.specs.declared.request.Req.{Req}
+use Rattle.share_state.specs.declared.request.Req.TheVariants as req
+use Rattle.share_state.specs.State.{has}
+use Rattle.share_state.specs.Built.{is_built}
 use Rattle.fs_plain.specs.Wire.{units_in}
 
 -- what is asked: something of the connection itself, as a mount, an ECHO or a leave; or a request to the share, with whether it is

@@ -1,6 +1,6 @@
 -- Programs that close each open that they make, before they answer.
 use Rattle.std.specs.Prelude.{◌≡◌, ◌⊎◌, ℕ, ◌+◌, ◌==◌, Bool, true, false}
-use Rattle.share_spec.specs.declared.request.Rep.{Rep}
+use Rattle.share_state.specs.declared.request.Rep.{Rep}
 use Rattle.smb_link.specs.Program.{Own, Wish, Open as Opening, Close, Known, Program, Ask, Look, Say}
 
 -- a request closes the n-th open of its call, from 0

@@ -2,9 +2,9 @@
 use Rattle.std.specs.Prelude.{ℕ, ◌==◌, Bool, true, false, ◌&&◌, if◌then◌else◌, None}
 use Rattle.std.specs.Str.{bytes_eq}
 use Rattle.smb_base.specs.declared.names.Fid.{Fid}
-use Rattle.share_spec.specs.declared.request.Req.{Req}
-use Rattle.share_spec.specs.declared.request.Req.TheVariants as req
-use Rattle.share_spec.specs.State.{has}
+use Rattle.share_state.specs.declared.request.Req.{Req}
+use Rattle.share_state.specs.declared.request.Req.TheVariants as req
+use Rattle.share_state.specs.State.{has}
 use Rattle.smb_link.specs.Program.{File, Wish, Open as Opening, Query, Close, Program, Ask, Look, Say}
 use Rattle.fs_plain.specs.Masked.{Untold, is_whole}
 

@@ -8,26 +8,26 @@ use Rattle.smb_le.specs.Numbers.{number_at}
 use Rattle.smb_head.specs.Stream.{First, Partial, Whole, Bad, first_of, frames_in, rest_in}
 use Rattle.smb_chain.specs.declared.parts.BadNext.{BadNext}
 use Rattle.smb_chain.specs.Parts.{parts_of}
-use Rattle.share_spec.specs.declared.connection.Grant.{Grant}
-use Rattle.share_spec.specs.declared.connection.LastCreate.{LastCreate}
-use Rattle.share_spec.specs.declared.connection.LastCreate.TheVariants as last
-use Rattle.share_spec.specs.declared.connection.Sent.{Sent}
-use Rattle.share_spec.specs.declared.connection.Owed.{Owed}
-use Rattle.share_spec.specs.declared.connection.Owed.TheVariants as owed
-use Rattle.share_spec.specs.declared.lease.Lease.{Lease}
-use Rattle.share_spec.specs.declared.opens.Open.{Open}
-use Rattle.share_spec.specs.declared.request.Who.{Who}
-use Rattle.share_spec.specs.declared.request.Req.{Req}
-use Rattle.share_spec.specs.declared.request.Req.TheVariants as req
-use Rattle.share_spec.specs.declared.request.Rep.{Rep}
-use Rattle.share_spec.specs.declared.request.RepBody.{RepBody}
-use Rattle.share_spec.specs.declared.request.RepBody.TheVariants as body
-use Rattle.share_spec.specs.declared.share.Share.{Share}
-use Rattle.share_spec.specs.Reply.{of_status, map_fid}
-use Rattle.share_spec.specs.Step.{step_of}
-use Rattle.share_spec.specs.Close.{is_key_of}
-use Rattle.share_spec.specs.Cut.{after_cut, after_join, after_drop}
-use Rattle.share_spec.specs.Sent.{behind_create, put_off, sent_but, sent_with}
+use Rattle.share_state.specs.declared.connection.Grant.{Grant}
+use Rattle.share_state.specs.declared.connection.LastCreate.{LastCreate}
+use Rattle.share_state.specs.declared.connection.LastCreate.TheVariants as last
+use Rattle.share_state.specs.declared.connection.Sent.{Sent}
+use Rattle.share_state.specs.declared.connection.Owed.{Owed}
+use Rattle.share_state.specs.declared.connection.Owed.TheVariants as owed
+use Rattle.share_state.specs.declared.lease.Lease.{Lease}
+use Rattle.share_state.specs.declared.opens.Open.{Open}
+use Rattle.share_state.specs.declared.request.Who.{Who}
+use Rattle.share_state.specs.declared.request.Req.{Req}
+use Rattle.share_state.specs.declared.request.Req.TheVariants as req
+use Rattle.share_state.specs.declared.request.Rep.{Rep}
+use Rattle.share_state.specs.declared.request.RepBody.{RepBody}
+use Rattle.share_state.specs.declared.request.RepBody.TheVariants as body
+use Rattle.share_state.specs.declared.share.Share.{Share}
+use Rattle.share_state.specs.Reply.{of_status, map_fid}
+use Rattle.share_state.specs.Step.{step_of}
+use Rattle.share_state.specs.Close.{is_key_of}
+use Rattle.share_state.specs.Cut.{after_cut, after_join, after_drop}
+use Rattle.share_state.specs.Sent.{behind_create, put_off, sent_but, sent_with}
 use Rattle.smb_link.specs.declared.event.Event.{Event}
 use Rattle.smb_link.specs.declared.event.Event.TheVariants as event
 use Rattle.fs_plain.specs.Requests.{WireRequest, wire_request}

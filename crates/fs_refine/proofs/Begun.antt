@@ -2,8 +2,8 @@
 use Rattle.std.proofs.Common.{rules, ◌≡◌, ◌∙◌, refl, sym, ap, subst, ℕ, Bool, true, false, cond, not, List, [], ◌∷◌, ◌++◌, Some, None}
 use Rattle.smb_head.specs.declared.first.FrameFault.{FrameFault}
 use Rattle.smb_head.specs.Stream.{Partial, Bad, first_of, rest_in, fault_of, fault_in}
-use Rattle.share_spec.specs.declared.share.Share.{Share}
-use Rattle.share_spec.specs.State.{Making}
+use Rattle.share_state.specs.declared.share.Share.{Share}
+use Rattle.share_state.specs.State.{Making}
 use Rattle.smb_link.specs.declared.event.Event.{Event}
 use Rattle.smb_link.specs.declared.event.Event.TheVariants as event
 use Rattle.smb_link.specs.Story.{is_of_share}

@@ -3,13 +3,13 @@ use Rattle.std.proofs.Common.{rules, arith, ◌≡◌, ◌∙◌, refl, sym, ap,
 use Rattle.std.specs.Prelude.{IsSomeAnd, map, filter, is_some}
 use Rattle.fs_types.specs.declared.answer.Answer.{Answer}
 use Rattle.fs_types.specs.declared.call.Call.{Call}
-use Rattle.share_spec.specs.declared.connection.Sent.{Sent}
-use Rattle.share_spec.specs.declared.request.Req.{Req}
-use Rattle.share_spec.specs.declared.request.Rep.{Rep}
-use Rattle.share_spec.specs.declared.share.Share.{Share}
-use Rattle.share_spec.specs.declared.request.Req.TheVariants as req
-use Rattle.share_spec.specs.Reply.{fid_of}
-use Rattle.share_spec.specs.PlainShare.{plain_step, shown}
+use Rattle.share_state.specs.declared.connection.Sent.{Sent}
+use Rattle.share_state.specs.declared.request.Req.{Req}
+use Rattle.share_state.specs.declared.request.Rep.{Rep}
+use Rattle.share_state.specs.declared.share.Share.{Share}
+use Rattle.share_state.specs.declared.request.Req.TheVariants as req
+use Rattle.share_state.specs.Reply.{fid_of}
+use Rattle.share_state.specs.PlainShare.{plain_step, shown}
 use Rattle.smb_link.specs.declared.event.Event.{Event}
 use Rattle.smb_link.specs.declared.event.Event.TheVariants as event
 use Rattle.smb_link.specs.declared.mark.Mark.{Mark}
@@ -17,7 +17,7 @@ use Rattle.smb_link.specs.declared.mark.Mark.TheVariants as mark
 use Rattle.smb_link.specs.Program.{Open as Opening, Query, Close, Program, Known, Ask, Look, Say, settled}
 use Rattle.fs_plain.specs.Masked.{Untold, untold}
 use Rattle.fs_plain.specs.Requests.{WireRequest, wire_request}
-use Rattle.share_spec.specs.Sent.{sent_with}
+use Rattle.share_state.specs.Sent.{sent_with}
 use Rattle.fs_plain.specs.World.{us, choice_now, done_of, refused_before, resolved, happens, share_after}
 use Rattle.fs_plain.specs.Honest.{HonestFrom}
 use Rattle.fs_plain.specs.Run.{Run}

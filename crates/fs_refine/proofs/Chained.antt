@@ -2,12 +2,12 @@
 use Rattle.std.proofs.Common.{◌≡◌, ℕ, true, false, [], ◌∷◌, ◌++◌, refl, None, Some, List, map}
 use Rattle.std.specs.Prelude.{take, length}
 use Rattle.fs_types.specs.declared.answer.Answer.TheVariants as answer
-use Rattle.share_spec.specs.declared.request.Req.TheVariants as req
-use Rattle.share_spec.specs.declared.request.RepBody.TheVariants as body
-use Rattle.share_spec.specs.declared.share.Share.{Share}
-use Rattle.share_spec.specs.Reply.{fid_of}
-use Rattle.share_spec.specs.Names.{components}
-use Rattle.share_spec.specs.State.{Making}
+use Rattle.share_state.specs.declared.request.Req.TheVariants as req
+use Rattle.share_state.specs.declared.request.RepBody.TheVariants as body
+use Rattle.share_state.specs.declared.share.Share.{Share}
+use Rattle.share_state.specs.Reply.{fid_of}
+use Rattle.share_state.specs.Names.{components}
+use Rattle.share_state.specs.State.{Making}
 use Rattle.smb_link.specs.declared.event.Event.{Event}
 use Rattle.smb_link.specs.declared.event.Event.TheVariants as event
 use Rattle.smb_link.specs.declared.mark.Mark.TheVariants as mark

@@ -1,8 +1,8 @@
 -- The share changes beside the client: what is related stays so, where the shares are alike again and one more is owed, or no more.
 use Rattle.std.proofs.Common.{◌≡◌, ◌∙◌, sym, ap, subst, ◌≤◌, List, [], ◌∷◌, ◌++◌}
 use Rattle.std.specs.Prelude.{map}
-use Rattle.share_spec.specs.declared.connection.Owed.{Owed}
-use Rattle.share_spec.specs.declared.share.Share.{Share}
+use Rattle.share_state.specs.declared.connection.Owed.{Owed}
+use Rattle.share_state.specs.declared.share.Share.{Share}
 use Rattle.fs_plain.specs.Alike.{Alike, HasNoLeaseOfOurs}
 use Rattle.fs_plain.specs.Holders.{AllHeld}
 use Rattle.fs_plain.specs.PlainSide.{PlainSide}

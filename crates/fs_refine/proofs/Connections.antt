@@ -2,8 +2,8 @@
 use Rattle.std.proofs.Common.{◌≡◌, ◌∙◌, refl, sym, ap, subst, ℕ}
 use Rattle.std.specs.Prelude.{filter}
 use Rattle.std.specs.List.{AllByRecursion}
-use Rattle.share_spec.specs.declared.share.Share.{Share}
-use Rattle.share_spec.specs.Cut.{ends_with, after_cut, after_join}
+use Rattle.share_state.specs.declared.share.Share.{Share}
+use Rattle.share_state.specs.Cut.{ends_with, after_cut, after_join}
 use Rattle.smb_link.specs.declared.event.Event.TheVariants as event
 use Rattle.fs_plain.specs.World.{us}
 use Rattle.fs_plain.specs.Run.{Run}

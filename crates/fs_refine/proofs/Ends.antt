@@ -4,8 +4,8 @@ use Rattle.std.specs.Prelude.{IsSomeAnd, map, ◌&&◌, ◌||◌}
 use Rattle.std.specs.List.{AllByRecursion, list_all}
 use Rattle.std.proofs.lemmas.Bool.{false≢true}
 use Rattle.fs_types.specs.declared.answer.Answer.{Answer}
-use Rattle.share_spec.specs.declared.opens.Open.{Open}
-use Rattle.share_spec.specs.declared.share.Share.{Share}
+use Rattle.share_state.specs.declared.opens.Open.{Open}
+use Rattle.share_state.specs.declared.share.Share.{Share}
 use Rattle.smb_link.specs.declared.event.Event.{Event}
 use Rattle.smb_link.specs.declared.event.Event.TheVariants as event
 use Rattle.smb_link.specs.declared.mark.Mark.TheVariants as mark
@@ -30,7 +30,7 @@ use Rattle.fs_refine.specs.Ends.{IsLeft, BreaksOff, AreClosings, IsThrifty, AreT
 use Rattle.fs_refine.proofs.CallLists.{stem, call_found, calls_without, none_runs}
 use Rattle.fs_refine.proofs.Changing.{well}
 use Rattle.fs_refine.proofs.Taking.{same_taken}
-use Rattle.share_spec.specs.State.{Making}
+use Rattle.share_state.specs.State.{Making}
 use Rattle.fs_plain.specs.Honest.{start, IsHonest}
 use Rattle.fs_plain.specs.World.{share_after}
 use Rattle.fs_refine.proofs.Kept.{kept, related_first}

@@ -29,12 +29,12 @@ use Rattle.smb_field.specs.Faults.{error_fault}
 use Rattle.smb_mux.specs.Bodies.{reply_fault}
 use Rattle.smb_mux.specs.Judged as mux
 use Rattle.smb_mux.specs.Judged.{nothing, command_at, is_answered, awaited_command, if_sound, looked_for, look_with, look_of, added, on_with, judged_by, judged_within, judged_from, judged}
-use Rattle.share_spec.specs.declared.connection.Owed.{Owed}
-use Rattle.share_spec.specs.declared.connection.Owed.TheVariants as owed
-use Rattle.share_spec.specs.declared.connection.Sent.{Sent}
-use Rattle.share_spec.specs.declared.request.Rep.{Rep}
-use Rattle.share_spec.specs.declared.share.Share.{Share}
-use Rattle.share_spec.specs.Sent.{sent_but, sent_with}
+use Rattle.share_state.specs.declared.connection.Owed.{Owed}
+use Rattle.share_state.specs.declared.connection.Owed.TheVariants as owed
+use Rattle.share_state.specs.declared.connection.Sent.{Sent}
+use Rattle.share_state.specs.declared.request.Rep.{Rep}
+use Rattle.share_state.specs.declared.share.Share.{Share}
+use Rattle.share_state.specs.Sent.{sent_but, sent_with}
 use Rattle.fs_plain.specs.Masked.{Untold, untold, masked}
 use Rattle.fs_plain.specs.Requests.{WireRequest, wire_request}
 use Rattle.fs_plain.specs.Replies.{command_of, answers, is_error, reply_by_status, reply_with, reply_in, interim_with, is_interim_of, is_aside_by_status, aside_with, is_aside_reply, Pays}

@@ -12,17 +12,17 @@ use Rattle.smb_head.specs.declared.head.HeadFault.TheVariants.{Short, Magic, Siz
 use Rattle.smb_head.specs.declared.head.TheConstants.{PROTOCOL}
 use Rattle.smb_head.specs.Header.{head_of, head_at, is_interim}
 use Rattle.smb_head.specs.Stream.{frames_in, rest_in}
-use Rattle.share_spec.specs.declared.connection.Owed.{Owed}
-use Rattle.share_spec.specs.declared.connection.Owed.TheVariants as owed
-use Rattle.share_spec.specs.declared.connection.Sent.{Sent}
-use Rattle.share_spec.specs.declared.request.Rep.{Rep}
-use Rattle.share_spec.specs.declared.share.Share.{Share}
-use Rattle.share_spec.specs.State.{has}
+use Rattle.share_state.specs.declared.connection.Owed.{Owed}
+use Rattle.share_state.specs.declared.connection.Owed.TheVariants as owed
+use Rattle.share_state.specs.declared.connection.Sent.{Sent}
+use Rattle.share_state.specs.declared.request.Rep.{Rep}
+use Rattle.share_state.specs.declared.share.Share.{Share}
+use Rattle.share_state.specs.State.{has}
 use Rattle.smb_link.specs.declared.event.Event.TheVariants as event
 use Rattle.fs_plain.specs.Masked.{untold, masked}
 use Rattle.fs_plain.specs.Requests.{WireRequest, wire_request}
 use Rattle.fs_plain.specs.Replies.{command_of, answers, is_error, reply_by_status, reply_with, reply_in, interim_with, is_interim_of, is_aside_by_status, aside_with, is_aside_reply, Pays}
-use Rattle.share_spec.specs.Sent.{sent_with}
+use Rattle.share_state.specs.Sent.{sent_with}
 use Rattle.fs_plain.specs.World.{mid_of, messages_in, messages_got, after_got}
 use Rattle.fs_plain.specs.Honest.{ArePaid, MayGet}
 use Rattle.fs_plain.specs.Run.{Run}

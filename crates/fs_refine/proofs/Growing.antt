@@ -3,11 +3,11 @@ use Rattle.std.proofs.Common.{arith, ◌≡◌, ◌∙◌, refl, sym, ap, ℕ, �
 use Rattle.std.specs.Prelude.{map}
 use Rattle.std.specs.List.{AllByRecursion}
 use Rattle.smb_base.specs.declared.names.Fid.{Fid}
-use Rattle.share_spec.specs.declared.connection.Grant.{Grant}
-use Rattle.share_spec.specs.declared.request.Who.{Who}
-use Rattle.share_spec.specs.declared.request.Req.{Req}
-use Rattle.share_spec.specs.declared.share.Share.{Share}
-use Rattle.share_spec.specs.Step.{step_of}
+use Rattle.share_state.specs.declared.connection.Grant.{Grant}
+use Rattle.share_state.specs.declared.request.Who.{Who}
+use Rattle.share_state.specs.declared.request.Req.{Req}
+use Rattle.share_state.specs.declared.share.Share.{Share}
+use Rattle.share_state.specs.Step.{step_of}
 use Rattle.fs_plain.specs.PlainSide.{PlainCall, PlainSide}
 use Rattle.fs_plain.specs.Alike.{Alike}
 use Rattle.fs_plain.proofs.Steps.{Counts, step_counts}

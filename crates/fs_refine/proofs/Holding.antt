@@ -5,15 +5,15 @@ use Rattle.std.specs.List.{AllByRecursion}
 use Rattle.std.proofs.lemmas.List.{length-append}
 use Rattle.std.proofs.lemmas.Bool.{false≢true}
 use Rattle.fs_types.specs.declared.answer.Answer.{Answer}
-use Rattle.share_spec.specs.declared.opens.Open.{Open}
-use Rattle.share_spec.specs.declared.request.Who.{Who}
-use Rattle.share_spec.specs.declared.request.Req.{Req}
-use Rattle.share_spec.specs.declared.request.Rep.{Rep}
-use Rattle.share_spec.specs.declared.share.Share.{Share}
-use Rattle.share_spec.specs.Reply.{fid_of}
-use Rattle.share_spec.specs.Close.{open_of}
-use Rattle.share_spec.specs.declared.connection.Grant.{Grant}
-use Rattle.share_spec.specs.PlainShare.{plain_step, plain_request, shown}
+use Rattle.share_state.specs.declared.opens.Open.{Open}
+use Rattle.share_state.specs.declared.request.Who.{Who}
+use Rattle.share_state.specs.declared.request.Req.{Req}
+use Rattle.share_state.specs.declared.request.Rep.{Rep}
+use Rattle.share_state.specs.declared.share.Share.{Share}
+use Rattle.share_state.specs.Reply.{fid_of}
+use Rattle.share_state.specs.Close.{open_of}
+use Rattle.share_state.specs.declared.connection.Grant.{Grant}
+use Rattle.share_state.specs.PlainShare.{plain_step, plain_request, shown}
 use Rattle.smb_link.specs.Program.{File, Own, Named, Wish, Open as Opening, Query, Close, Known, Program, Ask, Look, Say, settled}
 use Rattle.fs_plain.specs.World.{us}
 use Rattle.fs_plain.specs.Wishes.{wish_of}
@@ -145,7 +145,8 @@ act_holds p q who r other plain described running old =
     same_holds p q described running (subst (λ (s : Share). AllByRecursion (IsHeld p) s.opens) (sym plain) (others p.plain r old.opens)) old
   where
     others : (s : Share) (r : Req) → AllByRecursion (IsHeld p) s.opens → AllByRecursion (IsHeld p) (plain_step s who r).1.opens
-    others s r all = step_every (IsHeld p) plainly s who (plain_request r) (λ o own. inl (ap (λ (w : Who). w.0 == 0) own ∙ other)) all
+    others s r all = step_every (IsHeld p) plainly s who (plain_request r) (λ o own. inl (ap (λ (w : Who). w.0 == 0) own ∙ other))
+        (λ o held. held) (λ o held. held) all
 
 -- the n-th open
 nth_more : (n : ℕ) (xs : List ℕ) (x y : ℕ) → nth_open n xs ≡ Some y → nth_open n (xs ++ x ∷ []) ≡ Some y

@@ -1,7 +1,7 @@
 -- A client that does what it may, at an honest share, makes no difference, and stays related to both shares.
 use Rattle.std.proofs.Common.{◌≡◌, ◌∙◌, refl, sym, ap, subst, ℕ, ◌+◌, Bool, true, false, cond, not, List, [], ◌∷◌, Option, None}
-use Rattle.share_spec.specs.declared.share.Share.{Share}
-use Rattle.share_spec.specs.State.{Making}
+use Rattle.share_state.specs.declared.share.Share.{Share}
+use Rattle.share_state.specs.State.{Making}
 use Rattle.smb_link.specs.declared.event.Event.{Event}
 use Rattle.smb_link.specs.declared.event.Event.TheVariants as event
 use Rattle.smb_link.specs.declared.mark.Mark.TheVariants as mark

@@ -2,9 +2,9 @@
 -- the request's reply leaves nothing out.
 use Rattle.std.proofs.Common.{◌≡◌, ◌∙◌, refl, ap, ℕ, ◌==◌, Bool, true, if◌then◌else◌, List, Option}
 use Rattle.std.specs.Prelude.{is_some, is_none, ◌&&◌}
-use Rattle.share_spec.specs.declared.request.Rep.{Rep}
-use Rattle.share_spec.specs.declared.request.RepBody.{RepBody}
-use Rattle.share_spec.specs.declared.request.RepBody.TheVariants as body
+use Rattle.share_state.specs.declared.request.Rep.{Rep}
+use Rattle.share_state.specs.declared.request.RepBody.{RepBody}
+use Rattle.share_state.specs.declared.request.RepBody.TheVariants as body
 use Rattle.fs_plain.specs.World.{came_to}
 use Rattle.fs_plain.specs.Paired.{open_given}
 use Rattle.fs_plain.specs.Masked.{Untold, Nothing, NumberAndMark, Durability, untold, without, told_of, masked}

@@ -5,13 +5,13 @@ use Rattle.std.specs.List.{AllByRecursion}
 use Rattle.std.specs.Str.{bytes_eq}
 use Rattle.std.proofs.lemmas.Bool.{false≢true}
 use Rattle.smb_base.specs.declared.names.Fid.{Fid}
-use Rattle.share_spec.specs.declared.request.Req.TheVariants as req
-use Rattle.share_spec.specs.declared.request.Rep.{Rep}
-use Rattle.share_spec.specs.declared.request.RepBody.{RepBody}
-use Rattle.share_spec.specs.declared.request.RepBody.TheVariants as body
-use Rattle.share_spec.specs.Built.{is_built}
-use Rattle.share_spec.specs.Reply.{fid_of, map_fid}
-use Rattle.share_spec.specs.PlainShare.{shown, shown_body}
+use Rattle.share_state.specs.declared.request.Req.TheVariants as req
+use Rattle.share_state.specs.declared.request.Rep.{Rep}
+use Rattle.share_state.specs.declared.request.RepBody.{RepBody}
+use Rattle.share_state.specs.declared.request.RepBody.TheVariants as body
+use Rattle.share_state.specs.Built.{is_built}
+use Rattle.share_state.specs.Reply.{fid_of, map_fid}
+use Rattle.share_state.specs.PlainShare.{shown, shown_body}
 use Rattle.smb_link.specs.Program.{File, Own, Named, Wish, Open as Opening, Query, Close}
 use Rattle.fs_plain.specs.Wishes.{wish_of, is_wished}
 use Rattle.fs_plain.specs.Paired.{opened_number, NamesIn, Pair, pair_of_real, open_given, paired, pair_given, plain_of_real}

@@ -5,25 +5,25 @@ use Rattle.std.specs.List.{list_all}
 use Rattle.std.proofs.lemmas.Bool.{false≢true}
 use Rattle.smb_base.specs.declared.names.Key.{Key}
 use Rattle.smb_base.specs.declared.names.Mid.{Mid}
-use Rattle.share_spec.specs.declared.connection.Grant.{Grant}
-use Rattle.share_spec.specs.declared.connection.Owed.{Owed}
-use Rattle.share_spec.specs.declared.connection.Owed.TheVariants as owed
-use Rattle.share_spec.specs.declared.connection.Sent.{Sent}
-use Rattle.share_spec.specs.declared.lease.Lease.{Lease}
-use Rattle.share_spec.specs.declared.opens.Open.{Open}
-use Rattle.share_spec.specs.declared.request.Who.{Who}
-use Rattle.share_spec.specs.declared.request.Req.{Req}
-use Rattle.share_spec.specs.declared.request.Req.TheVariants as req
-use Rattle.share_spec.specs.declared.request.Rep.{Rep}
-use Rattle.share_spec.specs.declared.share.Share.{Share}
-use Rattle.share_spec.specs.Built.{is_built}
-use Rattle.share_spec.specs.Reply.{map_fid}
-use Rattle.share_spec.specs.Close.{closed, is_key_of}
-use Rattle.share_spec.specs.Cut.{all_closed, after_drop}
+use Rattle.share_state.specs.declared.connection.Grant.{Grant}
+use Rattle.share_state.specs.declared.connection.Owed.{Owed}
+use Rattle.share_state.specs.declared.connection.Owed.TheVariants as owed
+use Rattle.share_state.specs.declared.connection.Sent.{Sent}
+use Rattle.share_state.specs.declared.lease.Lease.{Lease}
+use Rattle.share_state.specs.declared.opens.Open.{Open}
+use Rattle.share_state.specs.declared.request.Who.{Who}
+use Rattle.share_state.specs.declared.request.Req.{Req}
+use Rattle.share_state.specs.declared.request.Req.TheVariants as req
+use Rattle.share_state.specs.declared.request.Rep.{Rep}
+use Rattle.share_state.specs.declared.share.Share.{Share}
+use Rattle.share_state.specs.Built.{is_built}
+use Rattle.share_state.specs.Reply.{map_fid}
+use Rattle.share_state.specs.Close.{closed, is_key_of}
+use Rattle.share_state.specs.Cut.{all_closed, after_drop}
 use Rattle.smb_link.specs.declared.event.Event.{Event}
 use Rattle.smb_link.specs.declared.event.Event.TheVariants as event
 use Rattle.smb_link.specs.Story.{is_of_share}
-use Rattle.share_spec.specs.Sent.{sent_with, put_off}
+use Rattle.share_state.specs.Sent.{sent_with, put_off}
 use Rattle.fs_plain.specs.World.{after_pend_of, act_of, grant_in, is_breakable, breakable, asked_of_first, notices, after_break, happens}
 use Rattle.fs_plain.specs.Honest.{MayPend, MayAct, MayHappen}
 use Rattle.fs_plain.specs.Run.{Run}
@@ -31,7 +31,8 @@ use Rattle.fs_plain.specs.Same.{same_reply}
 use Rattle.fs_plain.specs.Divergence.{is_passed_over, ended_between, fid_carried, act_on_side, side_after_act, judged_act, side_after_ends, side_after, judged_event}
 use Rattle.fs_plain.specs.PlainSide.{PlainSide}
 use Rattle.fs_plain.specs.Alike.{Alike, HasNoLeaseOfOurs}
-use Rattle.fs_plain.proofs.Steps.{Connection, connection, step_connection}
+use Rattle.fs_plain.proofs.Deeds.{Connection, connection}
+use Rattle.fs_plain.proofs.Steps.{step_connection}
 use Rattle.fs_plain.proofs.AlikeLaws.{alike_beside, carried_step, stepped, alike_step, alike_act, alike_drop, close_ours}
 use Rattle.fs_plain.proofs.ShareLaws.{step_ours}
 use Rattle.fs_client.specs.View.{View}

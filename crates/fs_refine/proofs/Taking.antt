@@ -2,14 +2,14 @@
 use Rattle.std.proofs.Common.{◌≡◌, ◌∙◌, refl, sym, ap, subst, ℕ, ◌==◌, Bool, true, false, if◌then◌else◌, List, [], ◌∷◌, ◌++◌, Option, Some, None}
 use Rattle.std.specs.Prelude.{IsSomeAnd, map, ◌&&◌}
 use Rattle.fs_types.specs.declared.call.Call.{Call}
-use Rattle.share_spec.specs.declared.connection.Owed.{Owed}
-use Rattle.share_spec.specs.declared.connection.Owed.TheVariants as owed
-use Rattle.share_spec.specs.declared.connection.Sent.{Sent}
-use Rattle.share_spec.specs.declared.request.Rep.{Rep}
-use Rattle.share_spec.specs.declared.share.Share.{Share}
+use Rattle.share_state.specs.declared.connection.Owed.{Owed}
+use Rattle.share_state.specs.declared.connection.Owed.TheVariants as owed
+use Rattle.share_state.specs.declared.connection.Sent.{Sent}
+use Rattle.share_state.specs.declared.request.Rep.{Rep}
+use Rattle.share_state.specs.declared.share.Share.{Share}
 use Rattle.fs_plain.specs.Masked.{masked}
 use Rattle.fs_plain.specs.Requests.{WireRequest, wire_request}
-use Rattle.share_spec.specs.Sent.{sent_with}
+use Rattle.share_state.specs.Sent.{sent_with}
 use Rattle.fs_plain.specs.Owners.{Owner, owner_of}
 use Rattle.fs_plain.specs.PlainSide.{PlainSide}
 use Rattle.fs_client.specs.Item.{Item, on_item, gone_on}

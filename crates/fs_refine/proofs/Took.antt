@@ -4,19 +4,19 @@ use Rattle.std.specs.Prelude.{MatchBool, IsSomeAnd, map, option_map, is_some, is
 use Rattle.std.specs.List.{AllByRecursion}
 use Rattle.std.proofs.lemmas.Bool.{false≢true}
 use Rattle.smb_base.specs.declared.names.Mid.{Mid}
-use Rattle.share_spec.specs.declared.connection.Grant.{Grant}
-use Rattle.share_spec.specs.declared.connection.LastCreate.{LastCreate}
-use Rattle.share_spec.specs.declared.connection.Owed.TheVariants as owed
-use Rattle.share_spec.specs.declared.connection.Sent.{Sent}
-use Rattle.share_spec.specs.declared.request.Req.{Req}
-use Rattle.share_spec.specs.declared.request.Rep.{Rep}
-use Rattle.share_spec.specs.declared.share.Share.{Share}
-use Rattle.share_spec.specs.declared.connection.LastCreate.TheVariants as last
-use Rattle.share_spec.specs.declared.request.Req.TheVariants as req
-use Rattle.share_spec.specs.Reply.{of_status, map_fid}
-use Rattle.share_spec.specs.Sent.{behind_create, sent_but, sent_with}
-use Rattle.share_spec.specs.Step.{step_of}
-use Rattle.share_spec.specs.PlainShare.{plain_step, shown}
+use Rattle.share_state.specs.declared.connection.Grant.{Grant}
+use Rattle.share_state.specs.declared.connection.LastCreate.{LastCreate}
+use Rattle.share_state.specs.declared.connection.Owed.TheVariants as owed
+use Rattle.share_state.specs.declared.connection.Sent.{Sent}
+use Rattle.share_state.specs.declared.request.Req.{Req}
+use Rattle.share_state.specs.declared.request.Rep.{Rep}
+use Rattle.share_state.specs.declared.share.Share.{Share}
+use Rattle.share_state.specs.declared.connection.LastCreate.TheVariants as last
+use Rattle.share_state.specs.declared.request.Req.TheVariants as req
+use Rattle.share_state.specs.Reply.{of_status, map_fid}
+use Rattle.share_state.specs.Sent.{behind_create, sent_but, sent_with}
+use Rattle.share_state.specs.Step.{step_of}
+use Rattle.share_state.specs.PlainShare.{plain_step, shown}
 use Rattle.smb_link.specs.Program.{Wish, Program, Known, Ask, Look, Say, settled, replied}
 use Rattle.fs_plain.specs.Requests.{WireRequest, wire_request}
 use Rattle.fs_plain.specs.Masked.{Untold, Nothing, untold, masked}
@@ -31,7 +31,8 @@ use Rattle.fs_plain.specs.PlainTaken.{side_after_wish, side_after_next, side_aft
 use Rattle.fs_plain.specs.Alike.{Alike}
 use Rattle.fs_plain.proofs.AlikeLaws.{alike_beside, carried_step, stepped, alike_step, alike_calls, alike_none, alike_stands}
 use Rattle.fs_plain.proofs.ShareLaws.{gives, step_gives, step_ours}
-use Rattle.fs_plain.proofs.Steps.{Counts, Connection, connection, step_counts, step_connection, step_names}
+use Rattle.fs_plain.proofs.Deeds.{Connection, connection}
+use Rattle.fs_plain.proofs.Steps.{Counts, step_counts, step_connection, step_names}
 use Rattle.fs_client.specs.Item.{Item, Placed, item_with, fids_with, fids_after, gone_on}
 use Rattle.fs_client.specs.View.{View}
 use Rattle.fs_client.specs.Asked.{creates, creates_as, is_refused, refused_as, AsksAs, left_by}

@@ -2,7 +2,7 @@
 use Rattle.std.specs.Prelude.{◌≡◌, ℕ, ◌≤◌, true, false, List, [], ◌∷◌, ◌++◌, map, None}
 use Rattle.std.specs.List.{AllByRecursion}
 use Rattle.smb_base.specs.declared.names.Fid.{Fid}
-use Rattle.share_spec.specs.Reply.{fid_of}
+use Rattle.share_state.specs.Reply.{fid_of}
 use Rattle.fs_plain.specs.Paired.{Pair, plain_of_real}
 use Rattle.fs_plain.specs.PlainSide.{PlainCall}
 use Rattle.fs_client.specs.Item.{Item, Place, OfFile, KeptSince, Placed}

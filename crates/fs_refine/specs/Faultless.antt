@@ -6,8 +6,8 @@ use Rattle.smb_head.specs.declared.command.TheConstants.{QUERY_INFO}
 use Rattle.smb_mux.specs.declared.taken.Reply.{Reply}
 use Rattle.smb_mux.specs.declared.taken.Taken.{Taken}
 use Rattle.smb_mux.specs.Judged.{judged}
-use Rattle.share_spec.specs.declared.connection.Sent.{Sent}
-use Rattle.share_spec.specs.Sent.{sent_with}
+use Rattle.share_state.specs.declared.connection.Sent.{Sent}
+use Rattle.share_state.specs.Sent.{sent_with}
 use Rattle.fs_plain.specs.Replies.{command_of, reply_in}
 use Rattle.fs_client.specs.View.{View}
 use Rattle.fs_client.specs.Looks.{all_looked}

@@ -2,9 +2,9 @@
 -- share and the plain side are where the client is once it has looked at all that it is owed.
 use Rattle.std.specs.Prelude.{◌≡◌, false, List, [], ◌∷◌, map}
 use Rattle.std.specs.List.{AllByRecursion}
-use Rattle.share_spec.specs.declared.connection.Owed.{Owed}
-use Rattle.share_spec.specs.declared.connection.Sent.{Sent}
-use Rattle.share_spec.specs.declared.share.Share.{Share}
+use Rattle.share_state.specs.declared.connection.Owed.{Owed}
+use Rattle.share_state.specs.declared.connection.Sent.{Sent}
+use Rattle.share_state.specs.declared.share.Share.{Share}
 use Rattle.fs_plain.specs.Run.{Run}
 use Rattle.fs_plain.specs.PlainSide.{PlainSide}
 use Rattle.fs_plain.specs.Alike.{Alike, HasNoLeaseOfOurs}

@@ -1,10 +1,10 @@
 //! What another client asks of a share, in words.
 
-use crate::words::{cut, hex32, medium, number};
-use anyhow::{Result, bail, ensure};
+use crate::words::{cut, hex32, medium, nothing, number};
+use anyhow::{Context, Result, bail, ensure};
 use share_box::Turn;
-use share_spec::Req;
-use smb_base::{Fid, Units};
+use share_state::Req;
+use smb_base::{Bytes, Fid, Key, Units};
 use std::alloc::Global;
 
 /// The turn of `WHO REQUEST`, in which this client makes this request.
@@ -22,7 +22,111 @@ fn request_of(alloc: Global, text: &str) -> Result<Req> {
         "flush" => Req::Flush { fid: fid_of(rest)? },
         "query" => Req::Query { fid: fid_of(rest)? },
         "room" => Req::Room { fid: fid_of(rest)? },
+        _ => on_open(alloc, name, rest)?,
+    })
+}
+
+/// The request with this name, of `N` and more words: N is the number of its open.
+fn on_open(alloc: Global, name: &str, text: &str) -> Result<Req> {
+    let (word, rest) = cut(text);
+    let fid = fid_of(word)?;
+    match name {
+        "read" | "lock" | "unlock" => range_of(name, fid, rest),
+        "write" => write_of(alloc, fid, rest),
+        "rename" | "replace" | "link" => name_of(alloc, name, fid, rest),
+        "reclaim" => reclaim_of(fid, rest),
+        _ => number_of(name, fid, rest),
+    }
+}
+
+/// A request with a number: a size, attributes in hex, the most bytes of a listing, or whether a name is to go.
+fn number_of(name: &str, fid: Fid, text: &str) -> Result<Req> {
+    Ok(match name {
+        "setend" => Req::SetEnd {
+            fid,
+            size: number(text)?,
+        },
+        "setbasic" => Req::SetBasic {
+            fid,
+            attributes: hex32(text)?,
+        },
+        "setpending" => Req::SetPending {
+            fid,
+            on: number(text)? != 0,
+        },
+        "list" => Req::List {
+            fid,
+            restart: false,
+            length: medium(text)?,
+        },
         _ => bail!("no request has the name {name:?}"),
+    })
+}
+
+/// A request with a range: `OFFSET LENGTH`, and for a lock `shared` or `exclusive`.
+fn range_of(name: &str, fid: Fid, text: &str) -> Result<Req> {
+    let (first, rest) = cut(text);
+    let (count, how) = cut(rest);
+    let offset = number(first)?;
+    let length = number(count)?;
+    if name == "lock" {
+        ensure!(how == "shared" || how == "exclusive", "{how:?} is no lock");
+        return Ok(Req::Lock {
+            fid,
+            offset,
+            length,
+            exclusive: how == "exclusive",
+        });
+    }
+    nothing(how)?;
+    if name == "unlock" {
+        return Ok(Req::Unlock {
+            fid,
+            offset,
+            length,
+        });
+    }
+    Ok(Req::Read {
+        fid,
+        offset,
+        length: medium(count)?,
+    })
+}
+
+/// An open is reclaimed, under a key of zeros.
+fn reclaim_of(fid: Fid, text: &str) -> Result<Req> {
+    nothing(text)?;
+    Ok(Req::Reclaim {
+        fid,
+        key: Key([0; 16]),
+    })
+}
+
+/// The bytes of `OFFSET HEX` are written.
+fn write_of(alloc: Global, fid: Fid, text: &str) -> Result<Req> {
+    let (first, digits) = cut(text);
+    let bytes = hex::decode(alloc, digits).context(format_args!("{digits:?} is no hex"))?;
+    Ok(Req::Write {
+        fid,
+        offset: number(first)?,
+        bytes: Bytes::of_vec(bytes),
+    })
+}
+
+/// The path, from the root on, gets the file of an open: as its new name, in the place of what has it too, or as one name more.
+fn name_of(alloc: Global, name: &str, fid: Fid, text: &str) -> Result<Req> {
+    let path = units_of(alloc, text)?;
+    if name == "link" {
+        return Ok(Req::LinkTo {
+            fid,
+            replace: false,
+            path,
+        });
+    }
+    Ok(Req::Rename {
+        fid,
+        replace: name == "replace",
+        path,
     })
 }
 

@@ -9,8 +9,8 @@ use Rattle.smb_head.specs.Stream.{frames_in}
 use Rattle.smb_mux.specs.declared.fault.TakeFault.{TakeFault}
 use Rattle.smb_mux.specs.declared.taken.Taken.{Taken}
 use Rattle.smb_mux.specs.Judged.{judged}
-use Rattle.share_spec.specs.declared.connection.Sent.{Sent}
-use Rattle.share_spec.specs.declared.request.Rep.{Rep}
+use Rattle.share_state.specs.declared.connection.Sent.{Sent}
+use Rattle.share_state.specs.declared.request.Rep.{Rep}
 use Rattle.smb_link.specs.Came.{Seen}
 use Rattle.smb_link.specs.Story.{is_of_share}
 use Rattle.smb_link.specs.declared.event.Event.{Event}

@@ -8,8 +8,8 @@ use Rattle.smb_base.specs.declared.names.Mid.{Mid}
 use Rattle.smb_chain.specs.declared.parts.BadNext.{BadNext}
 use Rattle.smb_credit.specs.Window.{up_to, no_request}
 use Rattle.smb_head.specs.Stream.{frames_in, rest_in}
-use Rattle.share_spec.specs.declared.connection.Sent.{Sent}
-use Rattle.share_spec.specs.declared.request.Rep.{Rep}
+use Rattle.share_state.specs.declared.connection.Sent.{Sent}
+use Rattle.share_state.specs.declared.request.Rep.{Rep}
 use Rattle.smb_link.specs.declared.event.Event.{Event}
 use Rattle.smb_link.specs.declared.event.Event.TheVariants as event
 use Rattle.smb_link.specs.declared.mark.Mark.TheVariants as mark

@@ -7,7 +7,7 @@ use Rattle.smb_mount.specs.Kept.{Start}
 use Rattle.smb_link.specs.declared.event.Event.{Event}
 use Rattle.smb_link.specs.declared.event.Event.TheVariants as event
 use Rattle.smb_link.specs.declared.mark.Mark.TheVariants as mark
-use Rattle.share_spec.specs.declared.connection.Sent.{Sent}
+use Rattle.share_state.specs.declared.connection.Sent.{Sent}
 use Rattle.fs_plain.specs.Owners.{Owner}
 use Rattle.fs_client.specs.View.{Setting, Client, no_client}
 use Rattle.fs_client.specs.After.{after, all_after}

@@ -22,7 +22,7 @@ use Rattle.smb_body_c.specs.Directory.{buffer_reply_of}
 use Rattle.smb_body_c.specs.Error.{error_reply_of}
 use Rattle.smb_body_c.specs.Info.{query_info_request_of}
 use Rattle.smb_info.specs.Attributes.{all_of}
-use Rattle.share_spec.specs.Names.{components}
+use Rattle.share_state.specs.Names.{components}
 use Rattle.smb_link.specs.Came.{own}
 use Rattle.smb_link.specs.declared.event.Event.{Event}
 use Rattle.smb_link.specs.declared.event.Event.TheVariants as event

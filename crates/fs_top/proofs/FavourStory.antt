@@ -26,7 +26,7 @@ use Rattle.smb_mount.specs.declared.states.SetUp.{SetUp}
 use Rattle.smb_mount.specs.declared.states.SetUp.TheVariants.{Challenged, Authenticated}
 use Rattle.smb_mount.specs.Kept as kept
 use Rattle.smb_mount.specs.Replies.{ReadsNegotiate, ReadsSession, ReadsTree}
-use Rattle.share_spec.specs.declared.connection.Sent.{Sent}
+use Rattle.share_state.specs.declared.connection.Sent.{Sent}
 use Rattle.smb_link.specs.Came.{is_silence}
 use Rattle.smb_link.specs.Program.{ServerFacts}
 use Rattle.smb_link.specs.declared.event.Event.{Event}

@@ -9,7 +9,7 @@ use Rattle.smb_chain.specs.declared.parts.BadNext.{BadNext}
 use Rattle.smb_head.specs.declared.request.Request.{Request}
 use Rattle.smb_head.specs.Stream.{rest_in}
 use Rattle.smb_mount.specs.declared.fault.MountFault.{MountFault}
-use Rattle.share_spec.specs.declared.connection.Sent.{Sent}
+use Rattle.share_state.specs.declared.connection.Sent.{Sent}
 use Rattle.smb_link.specs.Count.{counted}
 use Rattle.smb_link.specs.declared.event.Event.{Event}
 use Rattle.smb_link.specs.declared.event.Event.TheVariants as event

@@ -1,6 +1,6 @@
 -- What a run is for its user and for the others on the share.
 use Rattle.std.specs.Prelude.{◌≡◌, ℕ, Bool, true, ◌==◌, ◌||◌, List, Option, Some}
-use Rattle.share_spec.specs.State.{Making}
+use Rattle.share_state.specs.State.{Making}
 use Rattle.smb_link.specs.declared.event.Event.{Event}
 use Rattle.fs_plain.specs.Honest.{start, IsHonest}
 use Rattle.fs_plain.specs.Headline as plain

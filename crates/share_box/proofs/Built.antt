@@ -15,14 +15,14 @@ use Rattle.smb_body_b.specs.Contexts.{read_of}
 use Rattle.smb_body_b.specs.Create.{CreateRequestValue, create_request_of}
 use Rattle.smb_body_c.specs.declared.info.QueryInfoRequest.{QueryInfoRequest}
 use Rattle.smb_body_c.specs.Info.{query_info_request_of}
-use Rattle.share_spec.specs.declared.connection.LastCreate.{LastCreate}
-use Rattle.share_spec.specs.declared.connection.LastCreate.TheVariants as last
-use Rattle.share_spec.specs.declared.connection.Sent.{Sent}
-use Rattle.share_spec.specs.declared.request.Req.{Req}
-use Rattle.share_spec.specs.declared.request.Req.TheVariants as req
-use Rattle.share_spec.specs.Reply.{map_fid}
-use Rattle.share_spec.specs.State.{has}
-use Rattle.share_spec.specs.Built.{is_built}
+use Rattle.share_state.specs.declared.connection.LastCreate.{LastCreate}
+use Rattle.share_state.specs.declared.connection.LastCreate.TheVariants as last
+use Rattle.share_state.specs.declared.connection.Sent.{Sent}
+use Rattle.share_state.specs.declared.request.Req.{Req}
+use Rattle.share_state.specs.declared.request.Req.TheVariants as req
+use Rattle.share_state.specs.Reply.{map_fid}
+use Rattle.share_state.specs.State.{has}
+use Rattle.share_state.specs.Built.{is_built}
 use Rattle.fs_plain.specs.Wire.{units_in}
 use Rattle.fs_plain.specs.Requests.{WireRequest, asked_lease, share_request, create_with, create_asked, close_asked, is_query, query_asked, is_aside, by_command, asked_with, wire_request}
 use Rattle.fs_plain.specs.World.{followed, is_creating, resolved, refused_before}

@@ -17,22 +17,22 @@ use Rattle.smb_head.proofs.FrameLaws.{first_of-nil}
 use Rattle.smb_head.proofs.StreamLaws.{settled-partial, split, settled}
 use Rattle.smb_chain.specs.declared.parts.BadNext.{BadNext}
 use Rattle.smb_chain.specs.Parts.{parts_of}
-use Rattle.share_spec.specs.declared.connection.Grant.{Grant}
-use Rattle.share_spec.specs.declared.connection.Sent.{Sent}
-use Rattle.share_spec.specs.declared.connection.Owed.{Owed}
-use Rattle.share_spec.specs.declared.connection.Owed.TheVariants as owed
-use Rattle.share_spec.specs.declared.lease.Lease.{Lease}
-use Rattle.share_spec.specs.declared.opens.Open.{Open}
-use Rattle.share_spec.specs.declared.request.Req.{Req}
-use Rattle.share_spec.specs.declared.request.Rep.{Rep}
-use Rattle.share_spec.specs.declared.request.RepBody.{RepBody}
-use Rattle.share_spec.specs.declared.share.Share.{Share}
-use Rattle.share_spec.specs.Reply.{of_status}
-use Rattle.share_spec.specs.Close.{is_key_of, closed}
-use Rattle.share_spec.specs.Cut.{all_closed}
-use Rattle.share_spec.specs.Step.{step_of}
-use Rattle.share_spec.specs.Built.{is_built}
-use Rattle.share_spec.specs.Sent.{sent_with}
+use Rattle.share_state.specs.declared.connection.Grant.{Grant}
+use Rattle.share_state.specs.declared.connection.Sent.{Sent}
+use Rattle.share_state.specs.declared.connection.Owed.{Owed}
+use Rattle.share_state.specs.declared.connection.Owed.TheVariants as owed
+use Rattle.share_state.specs.declared.lease.Lease.{Lease}
+use Rattle.share_state.specs.declared.opens.Open.{Open}
+use Rattle.share_state.specs.declared.request.Req.{Req}
+use Rattle.share_state.specs.declared.request.Rep.{Rep}
+use Rattle.share_state.specs.declared.request.RepBody.{RepBody}
+use Rattle.share_state.specs.declared.share.Share.{Share}
+use Rattle.share_state.specs.Reply.{of_status}
+use Rattle.share_state.specs.Close.{is_key_of, closed}
+use Rattle.share_state.specs.Cut.{all_closed}
+use Rattle.share_state.specs.Step.{step_of}
+use Rattle.share_state.specs.Built.{is_built}
+use Rattle.share_state.specs.Sent.{sent_with}
 use Rattle.smb_link.specs.declared.event.Event.{Event}
 use Rattle.smb_link.specs.declared.event.Event.TheVariants as event
 use Rattle.smb_field.specs.declared.field.BodyFault.{BodyFault}
@@ -44,7 +44,7 @@ use Rattle.smb_body_b.specs.Create.{CreateReplyValue, create_reply_of}
 use Rattle.smb_body_b.specs.Contexts.{read_of}
 use Rattle.smb_body_c.specs.Error.{error_reply_of}
 use Rattle.smb_body_c.specs.Lease.{lease_break_of}
-use Rattle.share_spec.specs.declared.request.RepBody.TheVariants as body
+use Rattle.share_state.specs.declared.request.RepBody.TheVariants as body
 use Rattle.fs_plain.specs.Masked.{Untold, Nothing, NumberAndMark, Durability, untold, without_number, told_of, masked}
 use Rattle.fs_plain.proofs.Whole.{tells_durability, asked_tells}
 use Rattle.fs_plain.specs.Requests.{WireRequest, wire_request}
@@ -52,7 +52,8 @@ use Rattle.fs_plain.specs.Replies.{Pays, command_of, answers, reply_of, reply_by
 use Rattle.fs_plain.specs.World.{us, grant_in, requests_in, messages_in, messages_got, resolved, refused_before, unless_refused_before, choice_now, after_sent, after_done, after_taking, after_took_of, after_pend_of, notices, breakable, happens}
 use Rattle.fs_plain.specs.Ahead.{still_to_come, is_final, choice_of, is_opened, choice_among, ahead}
 use Rattle.fs_plain.specs.Honest.{ArePaid, HonestFrom, IsHonest, at_start}
-use Rattle.fs_plain.proofs.Steps.{Connection, connection, step_connection}
+use Rattle.fs_plain.proofs.Deeds.{Connection, connection}
+use Rattle.fs_plain.proofs.Steps.{step_connection}
 use Rattle.share_box.specs.Truth.{IsBare, AreBare, IsAlwaysHonest}
 use Rattle.share_box.proofs.SameShare.{step_grants}
 use Rattle.share_box.proofs.Built.{IsBuiltIn, asked_built, resolved_built}

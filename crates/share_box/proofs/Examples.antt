@@ -1,9 +1,9 @@
 -- Which requests of two frames may be served, and what is done once one of them is.
 use Rattle.std.proofs.Common.{◌≡◌, ℕ, false, List, [], ◌∷◌, None, map, refl}
 use Rattle.smb_base.specs.declared.names.Mid.{Mid}
-use Rattle.share_spec.specs.declared.connection.LastCreate.TheVariants as last
-use Rattle.share_spec.specs.declared.connection.Sent.{Sent}
-use Rattle.share_spec.specs.Sent.{put_off, sent_but, sent_with}
+use Rattle.share_state.specs.declared.connection.LastCreate.TheVariants as last
+use Rattle.share_state.specs.declared.connection.Sent.{Sent}
+use Rattle.share_state.specs.Sent.{put_off, sent_but, sent_with}
 use Rattle.share_box.specs.Order.{waiting_ids, is_next}
 use Rattle.share_box.specs.Turns.{interim_to}
 

@@ -1,18 +1,23 @@
 -- The share grants neither a lease nor a durable open, and refuses a CREATE only with a status of a refusal.
 use Rattle.std.proofs.Common.{◌≡◌, ◌⊎◌, inl, inr, true, false, Some, None, Result, Ok, Err, IfOk, refl, sym, subst}
 use Rattle.smb_base.specs.declared.names.NoMemory.{NoMemory}
-use Rattle.share_spec.specs.declared.request.Who.{Who}
-use Rattle.share_spec.specs.declared.request.Rep.{Rep}
-use Rattle.share_spec.specs.declared.request.Req.{Req}
-use Rattle.share_spec.specs.declared.request.Req.TheVariants as req
-use Rattle.share_spec.specs.declared.share.Share.{Share}
-use Rattle.share_spec.specs.Reply.{of_status}
-use Rattle.share_spec.specs.Step.{step_of}
-use Rattle.share_spec.specs.Built.{is_built}
+use Rattle.share_state.specs.declared.request.Who.{Who}
+use Rattle.share_state.specs.declared.request.Rep.{Rep}
+use Rattle.share_state.specs.declared.request.RepBody.{RepBody}
+use Rattle.share_state.specs.declared.request.RepBody.TheVariants as body
+use Rattle.share_state.specs.declared.request.Req.{Req}
+use Rattle.share_state.specs.declared.request.Req.TheVariants as req
+use Rattle.share_state.specs.declared.share.Share.{Share}
+use Rattle.share_state.specs.Reply.{of_status}
+use Rattle.share_state.specs.Step.{step_of}
+use Rattle.share_state.specs.Built.{is_built}
 use Rattle.std.proofs.lemmas.Bool.{false≢true}
+use Rattle.std.specs.Prelude.{is_none}
+use Rattle.fs_plain.specs.Paired.{open_given}
 use Rattle.fs_plain.specs.World.{is_creating, came_to}
+use Rattle.fs_plain.proofs.Deeds.{step_deed}
 use Rattle.share_box.specs.Paid.{GrantsNothing, is_outcome}
-use Rattle.share_box.proofs.Shapes.{IsRefused, IsOpened, IsGranted, IsTold, create_shape, create_shape_with, query_shape, close_shape}
+use Rattle.share_box.proofs.Shapes.{IsRefused, IsOpened, IsGranted, create_shape, create_shape_with, close_shape}
 
 refused_grants : (reply : Rep) → IsRefused reply → GrantsNothing reply.body
 refused_grants reply r = subst (λ (x : Rep). GrantsNothing x.body) (sym r.is) tt
@@ -21,9 +26,9 @@ created : (reply : Rep) → IsRefused reply ⊎ IsOpened reply → GrantsNothing
 created reply (inl r) = refused_grants reply r
 created reply (inr o) = subst (λ (x : Rep). GrantsNothing x.body) (sym o.is) (refl, refl)
 
-told_grants : (reply : Rep) → IsRefused reply ⊎ IsTold reply → GrantsNothing reply.body
-told_grants reply (inl r) = refused_grants reply r
-told_grants reply (inr t) = subst (λ (x : Rep). GrantsNothing x.body) (sym t.is) tt
+not_opened : (b : RepBody) → is_none (open_given b) ≡ true → GrantsNothing b
+not_opened (body.Opened fid action size attributes lease durable) none = absurd (false≢true none)
+not_opened other none = tt
 
 ended : (reply : Rep) → IsRefused reply ⊎ (reply ≡ of_status 0) → GrantsNothing reply.body
 ended reply (inl r) = refused_grants reply r
@@ -36,8 +41,7 @@ step_grants s who (req.Create path access share disposition options attributes N
 step_grants s who (req.Create path access share disposition options attributes None false) built =
     created _ (create_shape s who path (record { access = access; share = share; disposition = disposition; options = options; attributes = attributes; lease = None; durable = false }))
 step_grants s who (req.Close fid) built = ended _ (close_shape s who fid)
-step_grants s who (req.Query fid) built = told_grants _ (query_shape s who fid)
-step_grants s who other built = tt
+step_grants s who other built = not_opened (step_of None s who other).0.body (step_deed None s who other refl).gives
 
 -- nor does its reply say so
 pub reply_grants : (result : Result Rep NoMemory) (s new : Share) (who : Who) (r : Req) → is_built r ≡ true → IfOk result (λ rep. step_of None s who r ≡ (rep, new))

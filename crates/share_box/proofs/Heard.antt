@@ -9,7 +9,7 @@ use Rattle.smb_head.specs.declared.head.Head.{Head}
 use Rattle.smb_head.specs.declared.head.HeadFault.{HeadFault}
 use Rattle.smb_head.specs.declared.head.HeadFault.TheVariants.{Short, Magic, Size}
 use Rattle.smb_head.specs.Header.{head_of, head_at, is_interim}
-use Rattle.share_spec.specs.State.{has}
+use Rattle.share_state.specs.State.{has}
 use Rattle.fs_plain.specs.Replies.{command_of, answers, is_error, reply_by_status, reply_with, reply_in, interim_with, is_interim_of, is_aside_by_status, aside_with, is_aside_reply}
 use Rattle.fs_plain.specs.Masked.{untold}
 use Rattle.fs_plain.specs.World.{mid_of}

@@ -7,27 +7,27 @@ use Rattle.smb_base.specs.declared.names.Mid.{Mid}
 use Rattle.smb_head.specs.Stream.{Partial, first_of, fault_of}
 use Rattle.smb_head.proofs.FrameLaws.{first_of-nil}
 use Rattle.smb_chain.specs.declared.parts.BadNext.{BadNext}
-use Rattle.share_spec.specs.declared.connection.Grant.{Grant}
-use Rattle.share_spec.specs.declared.connection.LastCreate.{LastCreate}
-use Rattle.share_spec.specs.declared.connection.Sent.{Sent}
-use Rattle.share_spec.specs.declared.connection.Owed.{Owed}
-use Rattle.share_spec.specs.declared.connection.Owed.TheVariants as owed
-use Rattle.share_spec.specs.declared.request.Who.{Who}
-use Rattle.share_spec.specs.declared.request.Req.{Req}
-use Rattle.share_spec.specs.declared.request.Rep.{Rep}
-use Rattle.share_spec.specs.declared.share.Share.{Share}
-use Rattle.share_spec.specs.Reply.{of_status}
-use Rattle.share_spec.specs.Built.{is_built}
-use Rattle.share_spec.specs.Step.{step_of}
-use Rattle.share_spec.specs.Sent.{behind_create, put_off, sent_but, sent_with}
-use Rattle.share_spec.specs.Cut.{ends_with, after_cut, after_join}
+use Rattle.share_state.specs.declared.connection.Grant.{Grant}
+use Rattle.share_state.specs.declared.connection.LastCreate.{LastCreate}
+use Rattle.share_state.specs.declared.connection.Sent.{Sent}
+use Rattle.share_state.specs.declared.connection.Owed.{Owed}
+use Rattle.share_state.specs.declared.connection.Owed.TheVariants as owed
+use Rattle.share_state.specs.declared.request.Who.{Who}
+use Rattle.share_state.specs.declared.request.Req.{Req}
+use Rattle.share_state.specs.declared.request.Rep.{Rep}
+use Rattle.share_state.specs.declared.share.Share.{Share}
+use Rattle.share_state.specs.Reply.{of_status}
+use Rattle.share_state.specs.Built.{is_built}
+use Rattle.share_state.specs.Step.{step_of}
+use Rattle.share_state.specs.Sent.{behind_create, put_off, sent_but, sent_with}
+use Rattle.share_state.specs.Cut.{ends_with, after_cut, after_join}
 use Rattle.smb_link.specs.declared.event.Event.TheVariants as event
 use Rattle.fs_plain.specs.Requests.{WireRequest, wire_request}
 use Rattle.fs_plain.specs.World.{us, grant_in, waiting, messages_of, first_mid, requests_among, requests_in, after_sent, is_first_of_frame, is_creating, refusal_before, resolved, refused_before, unless_refused_before, came_to, after_create, choices_left, choice_now, after_done, after_aside, after_taking, after_took_of, act_of, after_got, happens, after_pend_of}
 use Rattle.fs_plain.specs.Honest.{MayBeDone, MayBeTakenAs, MayTake, MayAct, MayGet, MayHappen, MayPend}
 use Rattle.fs_plain.specs.Alike.{bare}
-use Rattle.fs_plain.proofs.PlainTree.{bare_of}
-use Rattle.fs_plain.proofs.Steps.{Connection, step_connection, step_leases}
+use Rattle.fs_plain.proofs.Deeds.{Connection, bare_of}
+use Rattle.fs_plain.proofs.Steps.{step_connection, step_leases}
 use Rattle.fs_plain.proofs.Every.{every-filter}
 use Rattle.share_box.specs.declared.state.State.{State}
 use Rattle.share_box.specs.Turns.{answered_as}

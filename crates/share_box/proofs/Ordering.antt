@@ -4,10 +4,10 @@ use Rattle.std.specs.Prelude.{◌==◌, ◌&&◌, if◌then◌else◌, option_ma
 use Rattle.std.specs.List.{AllByRecursion}
 use Rattle.std.proofs.lemmas.Bool.{false≢true}
 use Rattle.smb_base.specs.declared.names.Mid.{Mid}
-use Rattle.share_spec.specs.declared.connection.Sent.{Sent}
-use Rattle.share_spec.specs.declared.share.Share.{Share}
-use Rattle.share_spec.specs.Sent.{put_off, sent_but, sent_with}
-use Rattle.share_spec.proofs.SentLaws.{found_mid}
+use Rattle.share_state.specs.declared.connection.Sent.{Sent}
+use Rattle.share_state.specs.declared.share.Share.{Share}
+use Rattle.share_state.specs.Sent.{put_off, sent_but, sent_with}
+use Rattle.share_state.proofs.SentLaws.{found_mid}
 use Rattle.fs_plain.specs.World.{is_first_of_frame}
 use Rattle.share_box.specs.declared.state.State.{State}
 use Rattle.share_box.specs.Order.{waiting_ids, is_next}

@@ -2,7 +2,7 @@
 use Rattle.std.proofs.Common.{◌≡◌, ◌<◌, Bool, true, false, List, [], ◌∷◌, length, refl, arith}
 use Rattle.std.specs.Prelude.{not, if◌then◌else◌}
 use Rattle.smb_link.specs.declared.event.Event.{Event}
-use Rattle.share_spec.specs.declared.share.Share.{Share}
+use Rattle.share_state.specs.declared.share.Share.{Share}
 use Rattle.share_box.specs.declared.schedule.Turn.{Turn}
 use Rattle.share_box.specs.declared.schedule.Turn.TheVariants as turn
 use Rattle.share_box.specs.declared.turns.NextTurn.TheVariants as ahead

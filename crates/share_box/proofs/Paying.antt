@@ -1,7 +1,7 @@
 -- A written reply pays what is owed.
-use Rattle.share_spec.specs.declared.connection.Owed.TheVariants as owed
-use Rattle.share_spec.specs.declared.request.RepBody.TheVariants as body
-use Rattle.share_spec.specs.declared.request.Req.TheVariants as req
+use Rattle.share_state.specs.declared.connection.Owed.TheVariants as owed
+use Rattle.share_state.specs.declared.request.RepBody.TheVariants as body
+use Rattle.share_state.specs.declared.request.Req.TheVariants as req
 use Rattle.share_box.specs.declared.bodies.Said.TheVariants as said
 use Rattle.share_box.specs.declared.serving.Plan.TheVariants as plan
 use Rattle.share_box.specs.Answers as answers
@@ -14,16 +14,16 @@ use Rattle.smb_head.specs.declared.head.HeadFault.{HeadFault}
 use Rattle.smb_head.specs.Header.{head_of, header}
 use Rattle.smb_head.proofs.HeadLaws.{length-header}
 use Rattle.smb_field.specs.Body.{IsReadAgain, spelling}
-use Rattle.share_spec.specs.declared.connection.Owed.{Owed}
-use Rattle.share_spec.specs.declared.connection.Sent.{Sent}
-use Rattle.share_spec.specs.declared.request.Rep.{Rep}
-use Rattle.share_spec.specs.declared.request.RepBody.{RepBody}
-use Rattle.share_spec.specs.declared.request.Req.{Req}
-use Rattle.share_spec.specs.declared.share.Share.{Share}
-use Rattle.share_spec.specs.Reply.{of_status, opened_reply, fid_of}
-use Rattle.share_spec.specs.Query.{info_reply}
-use Rattle.share_spec.specs.Step.{step_of}
-use Rattle.share_spec.specs.Built.{is_built}
+use Rattle.share_state.specs.declared.connection.Owed.{Owed}
+use Rattle.share_state.specs.declared.connection.Sent.{Sent}
+use Rattle.share_state.specs.declared.request.Rep.{Rep}
+use Rattle.share_state.specs.declared.request.RepBody.{RepBody}
+use Rattle.share_state.specs.declared.request.Req.{Req}
+use Rattle.share_state.specs.declared.share.Share.{Share}
+use Rattle.share_state.specs.Reply.{of_status, opened_reply, fid_of}
+use Rattle.share_state.specs.Query.{info_reply}
+use Rattle.share_state.specs.Step.{step_of}
+use Rattle.share_state.specs.Built.{is_built}
 use Rattle.std.proofs.lemmas.Bool.{false≢true}
 use Rattle.fs_plain.specs.Requests.{WireRequest, wire_request}
 use Rattle.fs_plain.specs.Masked.{Untold, Nothing, NumberAndMark, Durability, untold, without, told_of}

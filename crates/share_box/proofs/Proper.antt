@@ -5,26 +5,26 @@ use Rattle.std.specs.List.{list_all}
 use Rattle.smb_base.specs.declared.names.Mid.{Mid}
 use Rattle.smb_chain.specs.declared.parts.BadNext.{BadNext}
 use Rattle.smb_head.specs.Stream.{first_of}
-use Rattle.share_spec.specs.declared.connection.Sent.{Sent}
-use Rattle.share_spec.specs.declared.create.Wanted.{Wanted}
-use Rattle.share_spec.specs.declared.opens.Open.{Open}
-use Rattle.share_spec.specs.declared.place.Place.{Place}
-use Rattle.share_spec.specs.declared.place.Place.TheVariants.{NoPath, Missing, There}
-use Rattle.share_spec.specs.declared.request.Who.{Who}
-use Rattle.share_spec.specs.declared.request.Rep.{Rep}
-use Rattle.share_spec.specs.declared.request.Req.{Req}
-use Rattle.share_spec.specs.declared.request.Req.TheVariants as req
-use Rattle.share_spec.specs.declared.share.Share.{Share}
-use Rattle.share_spec.specs.Names.{is_name, components}
-use Rattle.share_spec.specs.State.{emptied}
-use Rattle.share_spec.specs.Place.{place_of}
-use Rattle.share_spec.specs.Leases.{granting_of}
-use Rattle.share_spec.specs.Reply.{unless, refused}
-use Rattle.share_spec.specs.Sent.{behind_create, put_off, sent_but, sent_with}
-use Rattle.share_spec.specs.Create.{is_disposition, overwrites, made, opened, create_at, create_of}
-use Rattle.share_spec.specs.Close.{open_of, close_open}
-use Rattle.share_spec.specs.Query.{query_open}
-use Rattle.share_spec.specs.Step.{step_of}
+use Rattle.share_state.specs.declared.connection.Sent.{Sent}
+use Rattle.share_state.specs.declared.wanted.Wanted.{Wanted}
+use Rattle.share_state.specs.declared.opens.Open.{Open}
+use Rattle.share_state.specs.declared.place.Place.{Place}
+use Rattle.share_state.specs.declared.place.Place.TheVariants.{NoPath, Missing, There}
+use Rattle.share_state.specs.declared.request.Who.{Who}
+use Rattle.share_state.specs.declared.request.Rep.{Rep}
+use Rattle.share_state.specs.declared.request.Req.{Req}
+use Rattle.share_state.specs.declared.request.Req.TheVariants as req
+use Rattle.share_state.specs.declared.share.Share.{Share}
+use Rattle.share_state.specs.Names.{is_name, components}
+use Rattle.share_state.specs.State.{emptied}
+use Rattle.share_state.specs.Place.{place_of}
+use Rattle.share_state.specs.Leases.{granting_of}
+use Rattle.share_state.specs.Reply.{unless, refused}
+use Rattle.share_state.specs.Sent.{behind_create, put_off, sent_but, sent_with}
+use Rattle.share_state.specs.Create.{is_disposition, overwrites, made, opened, create_at, create_of}
+use Rattle.share_state.specs.Close.{open_of, close_open}
+use Rattle.share_state.specs.Query.{query_open}
+use Rattle.share_state.specs.Step.{step_of}
 use Rattle.fs_plain.specs.Requests.{wire_request}
 use Rattle.fs_plain.specs.World.{us, is_creating, came_to, waiting, messages_of, first_mid, requests_among, requests_in}
 use Rattle.share_box.specs.declared.serving.Plan.{Plan}
@@ -34,6 +34,8 @@ use Rattle.share_box.specs.Serving.{plan_of}
 use Rattle.share_box.specs.Paid.{is_outcome, IsProper, AreProper}
 use Rattle.share_box.specs.Order.{waiting_ids}
 use Rattle.share_box.specs.Turns.{share_after_act, served_as, served_found, interim_to, delayed_by, delayed, all_delayed, served_with, served}
+use Rattle.fs_plain.proofs.Deeds.{Connection}
+use Rattle.fs_plain.proofs.Steps.{step_connection}
 use Rattle.share_box.proofs.Grants.{create_outcome}
 
 by_test : (t : Bool) (xs ys : List Sent) → AreProper xs → AreProper ys → AreProper (if t then xs else ys)
@@ -79,45 +81,8 @@ after_proper true frame reply xs outcome all = all_told frame reply xs (outcome 
 after_proper false frame reply xs outcome all = all
 
 -- a request to the share leaves those that wait
-either : (t : Bool) (x y : Rep × Share) (sent : List Sent) → x.1.sent ≡ sent → y.1.sent ≡ sent → (if t then x else y).1.sent ≡ sent
-either true x y sent p q = p
-either false x y sent p q = q
-
-either_share : (t : Bool) (x y : Share) (sent : List Sent) → x.sent ≡ sent → y.sent ≡ sent → (if t then x else y).sent ≡ sent
-either_share true x y sent p q = p
-either_share false x y sent p q = q
-
-unless_same : (reason : Option ℕ) (s : Share) (done : Rep × Share) → done.1.sent ≡ s.sent → (unless reason s done).1.sent ≡ s.sent
-unless_same None s done same = same
-unless_same (Some status) s done same = refl
-
-at_place : (s : Share) (who : Who) (w : Wanted) (p : Place) → (create_at None s who w p).1.sent ≡ s.sent
-at_place s who w NoPath = refl
-at_place s who w (Missing d name) = unless_same _ s (made s who w (granting_of None s who w (s.nodes_made + 1)) d name) refl
-at_place s who w (There f) =
-    unless_same _ s (opened s who w (granting_of None s who w f.node) f) (either_share (overwrites w.disposition) (record s { nodes = map (emptied f.node) s.nodes }) s s.sent refl refl)
-
-create_same : (s : Share) (who : Who) (path : List ℕ) (w : Wanted) → (create_of None s who path w).1.sent ≡ s.sent
-create_same s who path w =
-    either (not (is_disposition w.disposition)) (refused 0xC000000D s)
-    (if not (list_all is_name (components path)) then refused 0xC0000033 s else create_at None s who w (place_of s (components path))) s.sent refl
-    (either (not (list_all is_name (components path))) (refused 0xC0000033 s) (create_at None s who w (place_of s (components path))) s.sent refl
-    (at_place s who w (place_of s (components path))))
-
-close_same : (o : Option Open) (s : Share) → (close_open o s).1.sent ≡ s.sent
-close_same None s = refl
-close_same (Some o) s = refl
-
-query_same : (o : Option Open) (s : Share) → (query_open o s).1.sent ≡ s.sent
-query_same None s = refl
-query_same (Some o) s = refl
-
 step_sent : (s : Share) (who : Who) (r : Req) → (step_of None s who r).1.sent ≡ s.sent
-step_sent s who (req.Create path access share disposition options attributes lease durable) =
-    create_same s who path (record { access = access; share = share; disposition = disposition; options = options; attributes = attributes; lease = lease; durable = durable })
-step_sent s who (req.Close fid) = close_same (open_of s.opens who fid) s
-step_sent s who (req.Query fid) = query_same (open_of s.opens who fid) s
-step_sent s who other = refl
+step_sent s who r = ap (λ (k : Connection). k.sent) (step_connection None s who r)
 
 does_proper : (p : Plan) (one : Sent) (b : State) → AreProper b.share.sent → AreProper (served_as (Some p) one b).share.sent
 does_proper plan.Aside one b all = all

@@ -24,9 +24,9 @@ use Rattle.smb_body_c.specs.Error.{error_reply_of}
 use Rattle.smb_info.specs.declared.attributes.All.{All}
 use Rattle.smb_info.specs.declared.attributes.Standard.{Standard}
 use Rattle.smb_info.specs.Attributes.{all_of, standard_of}
-use Rattle.share_spec.specs.declared.request.RepBody.TheVariants as body
-use Rattle.share_spec.specs.State.{has}
-use Rattle.share_spec.specs.Reply.{attributes_of}
+use Rattle.share_state.specs.declared.request.RepBody.TheVariants as body
+use Rattle.share_state.specs.State.{has}
+use Rattle.share_state.specs.Reply.{attributes_of}
 use Rattle.fs_plain.specs.Masked.{Untold, Nothing, NumberAndMark, Durability, without}
 use Rattle.fs_plain.specs.Replies.{is_error, opened_with, opened_in, closed_in, known_whole, known_in_part, info_of, info_in, has_aside_body}
 use Rattle.share_box.specs.Bodies.{negotiated, session, tree, empty, error, opened, closed, number_of, standard, all, in_part, information, information_size, buffer}

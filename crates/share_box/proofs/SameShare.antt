@@ -1,36 +1,39 @@
 -- Two shares that differ in their connection alone do the same, and a share without leases waits for no break and grants nothing.
 use Rattle.std.proofs.Common.{◌≡◌, ◌∙◌, ℕ, true, false, List, [], ◌∷◌, refl, sym, ap, Option, Some, None, Bool, not, if◌then◌else◌}
-use Rattle.std.specs.Prelude.{map, filter}
+use Rattle.std.specs.Prelude.{map, filter, is_none}
 use Rattle.std.specs.List.{list_all}
 use Rattle.std.proofs.lemmas.Bool.{false≢true}
 use Rattle.smb_base.specs.declared.names.Key.{Key}
-use Rattle.share_spec.specs.declared.connection.Grant.{Grant}
-use Rattle.share_spec.specs.declared.lease.Lease.{Lease}
-use Rattle.share_spec.specs.declared.opens.Open.{Open}
-use Rattle.share_spec.specs.declared.create.Wanted.{Wanted}
-use Rattle.share_spec.specs.declared.place.Place.{Place}
-use Rattle.share_spec.specs.declared.place.Place.TheVariants.{NoPath, Missing, There}
-use Rattle.share_spec.specs.declared.request.Who.{Who}
-use Rattle.share_spec.specs.declared.request.Rep.{Rep}
-use Rattle.share_spec.specs.declared.request.Req.{Req}
-use Rattle.share_spec.specs.declared.request.Req.TheVariants as req
-use Rattle.share_spec.specs.declared.share.Share.{Share}
-use Rattle.share_spec.specs.Names.{is_name, components}
-use Rattle.share_spec.specs.Place.{place_of}
-use Rattle.share_spec.specs.Reply.{unless, refused}
-use Rattle.share_spec.specs.Create.{is_disposition, create_at, create_of, made, opened, refusal_of_missing, refusal_of_there}
-use Rattle.share_spec.specs.Close.{open_of, close_open, closed, kept_leases}
-use Rattle.share_spec.specs.Query.{query_open}
-use Rattle.share_spec.specs.Step.{step_of}
-use Rattle.share_spec.specs.Built.{is_built}
-use Rattle.share_spec.specs.Leases.{no_granting}
-use Rattle.share_spec.specs.PlainShare.{plain_wanted, plain_request}
-use Rattle.share_spec.specs.Breaks.{is_refused_early, needs_in, needs_at, needs_of}
-use Rattle.share_spec.specs.Grants.{is_allowed}
-use Rattle.share_spec.specs.Cut.{all_closed, ends_with, disconnected, after_cut}
+use Rattle.share_state.specs.declared.connection.Grant.{Grant}
+use Rattle.share_state.specs.declared.lease.Lease.{Lease}
+use Rattle.share_state.specs.declared.opens.Open.{Open}
+use Rattle.share_state.specs.declared.wanted.Wanted.{Wanted}
+use Rattle.share_state.specs.declared.place.Place.{Place}
+use Rattle.share_state.specs.declared.place.Place.TheVariants.{NoPath, Missing, There}
+use Rattle.share_state.specs.declared.request.Who.{Who}
+use Rattle.share_state.specs.declared.request.Rep.{Rep}
+use Rattle.share_state.specs.declared.request.RepBody.{RepBody}
+use Rattle.share_state.specs.declared.request.RepBody.TheVariants as body
+use Rattle.share_state.specs.declared.request.Req.{Req}
+use Rattle.share_state.specs.declared.request.Req.TheVariants as req
+use Rattle.share_state.specs.declared.share.Share.{Share}
+use Rattle.share_state.specs.Names.{is_name, components}
+use Rattle.share_state.specs.Place.{place_of}
+use Rattle.share_state.specs.Reply.{unless, refused}
+use Rattle.share_state.specs.Create.{is_disposition, create_at, create_of, made, opened, refusal_of_missing, refusal_of_there}
+use Rattle.share_state.specs.Close.{open_of, close_open, closed, kept_leases}
+use Rattle.share_state.specs.Step.{step_of}
+use Rattle.share_state.specs.Built.{is_built}
+use Rattle.share_state.specs.Leases.{no_granting}
+use Rattle.share_state.specs.PlainShare.{plain_wanted, plain_request}
+use Rattle.share_state.specs.Breaks.{is_own, gone_from, gone_on, gone_with, gone_with_both, is_of_open, is_refused_early, needs_in, needs_at, needs_by, needs_of, replaced_by}
+use Rattle.share_state.specs.Grants.{is_allowed}
+use Rattle.share_state.specs.Cut.{all_closed, ends_with, disconnected, after_cut}
 use Rattle.fs_plain.specs.World.{grant_in}
 use Rattle.fs_plain.specs.Alike.{bare}
-use Rattle.fs_plain.proofs.PlainTree.{bare_of, step_bare}
+use Rattle.fs_plain.specs.Paired.{open_given}
+use Rattle.fs_plain.proofs.Deeds.{bare_of, step_deed}
+use Rattle.fs_plain.proofs.PlainTree.{step_bare}
 use Rattle.share_box.specs.Truth.{IsBare}
 
 -- a request does the same, whatever was chosen
@@ -49,31 +52,29 @@ no_needs_in false needs none = none
 no_needs_at : (s : Share) (who : Who) (w : Wanted) (at : Place) → s.leases ≡ [] → needs_at s who w at ≡ []
 no_needs_at s who w NoPath none = refl
 no_needs_at s who w (Missing d name) none = refl
-no_needs_at s who w (There f) none = no_needs_in (is_refused_early s who w f) (needs_in s who w f.node s.leases) (ap (needs_in s who w f.node) none)
+no_needs_at s who w (There f) none = no_needs_in (is_refused_early s who w f) (needs_in (is_own who w.lease) (gone_from s w f.node) s.leases)
+    (ap (needs_in (is_own who w.lease) (gone_from s w f.node)) none)
 
 no_needs_if : (named : Bool) (needs : List (Key × ℕ)) → needs ≡ [] → (if named then needs else []) ≡ []
 no_needs_if true needs none = none
 no_needs_if false needs none = refl
 
+no_needs_by : (s : Share) (found : Option Open) (gone : Open → Lease → ℕ) → s.leases ≡ [] → needs_by s found gone ≡ []
+no_needs_by s None gone none = refl
+no_needs_by s (Some o) gone none = ap (needs_in (is_of_open o) (gone o)) none
+
 pub no_needs : (s : Share) (who : Who) (r : Req) → s.leases ≡ [] → needs_of s who r ≡ []
 no_needs s who (req.Create path access share disposition options attributes lease durable) none =
     no_needs_if _ _ (no_needs_at s who (record { access = access; share = share; disposition = disposition; options = options; attributes = attributes; lease = lease; durable = durable }) (place_of s (components path)) none)
-no_needs s who (req.Close fid) none = refl
-no_needs s who (req.Flush fid) none = refl
-no_needs s who (req.Query fid) none = refl
-no_needs s who (req.Room fid) none = refl
-no_needs s who (req.Read fid offset length) none = refl
-no_needs s who (req.Write fid offset bytes) none = refl
-no_needs s who (req.Lock fid offset length exclusive) none = refl
-no_needs s who (req.Unlock fid offset length) none = refl
-no_needs s who (req.List fid restart length) none = refl
-no_needs s who (req.SetBasic fid attributes) none = refl
-no_needs s who (req.SetEnd fid size) none = refl
-no_needs s who (req.SetPending fid on) none = refl
-no_needs s who (req.Rename fid replace path) none = refl
-no_needs s who (req.LinkTo fid replace path) none = refl
-no_needs s who (req.Ack key state) none = refl
-no_needs s who (req.Reclaim fid key) none = refl
+no_needs s who (req.Read fid offset length) none = no_needs_by s (open_of s.opens who fid) (λ o. gone_on o.node 4) none
+no_needs s who (req.Write fid offset bytes) none = no_needs_by s (open_of s.opens who fid) (λ o. gone_on o.node 5) none
+no_needs s who (req.SetEnd fid size) none = no_needs_by s (open_of s.opens who fid) (λ o. gone_on o.node 5) none
+no_needs s who (req.Lock fid offset length exclusive) none = no_needs_by s (open_of s.opens who fid) (λ o. gone_on o.node 5) none
+no_needs s who (req.SetPending fid on) none =
+    no_needs_if on (needs_by s (open_of s.opens who fid) (λ o. gone_with s o.node)) (no_needs_by s (open_of s.opens who fid) (λ o. gone_with s o.node) none)
+no_needs s who (req.Rename fid replace path) none =
+    no_needs_by s (open_of s.opens who fid) (λ o. gone_with_both s o.node (replaced_by s replace o.entry (components path))) none
+no_needs s who other none = refl
 
 -- what is bare is allowed where nothing is wanted
 pub bare_allowed : (choice : Option Grant) (s : Share) (who : Who) (r : Req) → is_built r ≡ true → IsBare choice → is_allowed choice s who r ≡ true
@@ -108,9 +109,9 @@ close_grants : (o : Option Open) (s : Share) → IsBare (grant_in (close_open o 
 close_grants None s = refl
 close_grants (Some o) s = refl
 
-query_grants : (o : Option Open) (s : Share) → IsBare (grant_in (query_open o s).0.body)
-query_grants None s = refl
-query_grants (Some o) s = refl
+not_opened : (b : RepBody) → is_none (open_given b) ≡ true → IsBare (grant_in b)
+not_opened (body.Opened fid action size attributes lease durable) none = absurd (false≢true none)
+not_opened other none = refl
 
 pub step_grants : (choice : Option Grant) (s : Share) (who : Who) (r : Req) → is_built r ≡ true → IsBare (grant_in (step_of choice s who r).0.body)
 step_grants choice s who (req.Create path access share disposition options attributes (Some wish) durable) built = absurd (false≢true built)
@@ -118,21 +119,7 @@ step_grants choice s who (req.Create path access share disposition options attri
 step_grants choice s who (req.Create path access share disposition options attributes None false) built =
     create_grants choice s who path (record { access = access; share = share; disposition = disposition; options = options; attributes = attributes; lease = None; durable = false })
 step_grants choice s who (req.Close fid) built = close_grants (open_of s.opens who fid) s
-step_grants choice s who (req.Query fid) built = query_grants (open_of s.opens who fid) s
-step_grants choice s who (req.Flush fid) built = refl
-step_grants choice s who (req.Room fid) built = refl
-step_grants choice s who (req.Read fid offset length) built = refl
-step_grants choice s who (req.Write fid offset bytes) built = refl
-step_grants choice s who (req.Lock fid offset length exclusive) built = refl
-step_grants choice s who (req.Unlock fid offset length) built = refl
-step_grants choice s who (req.List fid restart length) built = refl
-step_grants choice s who (req.SetBasic fid attributes) built = refl
-step_grants choice s who (req.SetEnd fid size) built = refl
-step_grants choice s who (req.SetPending fid on) built = refl
-step_grants choice s who (req.Rename fid replace path) built = refl
-step_grants choice s who (req.LinkTo fid replace path) built = refl
-step_grants choice s who (req.Ack key state) built = refl
-step_grants choice s who (req.Reclaim fid key) built = refl
+step_grants choice s who other built = not_opened (step_of choice s who other).0.body (step_deed choice s who other refl).gives
 
 -- opens end the same beside any connection
 all_closed_bare : (opens : List Open) (s : Share) → bare (all_closed opens s) ≡ all_closed opens (bare s)

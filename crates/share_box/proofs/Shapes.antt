@@ -3,25 +3,25 @@ use Rattle.std.proofs.Common.{◌≡◌, ◌⊎◌, inl, inr, ℕ, Bool, true, f
 use Rattle.std.specs.Prelude.{◌==◌, not, ◌&&◌, ◌||◌, if◌then◌else◌}
 use Rattle.std.specs.List.{list_all}
 use Rattle.smb_base.specs.declared.names.Fid.{Fid}
-use Rattle.share_spec.specs.declared.connection.Grant.{Grant}
-use Rattle.share_spec.specs.declared.create.Wanted.{Wanted}
-use Rattle.share_spec.specs.declared.granting.Granting.{Granting}
-use Rattle.share_spec.specs.declared.opens.Open.{Open}
-use Rattle.share_spec.specs.declared.place.Found.{Found}
-use Rattle.share_spec.specs.declared.place.Place.{Place}
-use Rattle.share_spec.specs.declared.place.Place.TheVariants.{NoPath, Missing, There}
-use Rattle.share_spec.specs.declared.request.Who.{Who}
-use Rattle.share_spec.specs.declared.request.Rep.{Rep}
-use Rattle.share_spec.specs.declared.share.Share.{Share}
-use Rattle.share_spec.specs.Names.{is_name, components}
-use Rattle.share_spec.specs.State.{has, is_directory, is_read_only, has_entries, is_pending, is_going}
-use Rattle.share_spec.specs.Place.{place_of}
-use Rattle.share_spec.specs.Leases.{is_elsewhere, no_granting, granting_of}
-use Rattle.share_spec.specs.PlainShare.{plain_wanted}
-use Rattle.share_spec.specs.Reply.{of_status, refused, unless, granted_reply, opened_reply}
-use Rattle.share_spec.specs.Create.{is_disposition, overwrites, has_unshared, refusal_of_key, refusal_of_missing, refusal_of_kind, refusal_of_read_only, or_else, refusal_of_use, refusal_of_there, made, opened, create_at, create_of}
-use Rattle.share_spec.specs.Close.{open_of, close_open, close_of}
-use Rattle.share_spec.specs.Query.{info_reply, query_open, query_of}
+use Rattle.share_state.specs.declared.connection.Grant.{Grant}
+use Rattle.share_state.specs.declared.wanted.Wanted.{Wanted}
+use Rattle.share_state.specs.declared.granting.Granting.{Granting}
+use Rattle.share_state.specs.declared.opens.Open.{Open}
+use Rattle.share_state.specs.declared.place.Found.{Found}
+use Rattle.share_state.specs.declared.place.Place.{Place}
+use Rattle.share_state.specs.declared.place.Place.TheVariants.{NoPath, Missing, There}
+use Rattle.share_state.specs.declared.request.Who.{Who}
+use Rattle.share_state.specs.declared.request.Rep.{Rep}
+use Rattle.share_state.specs.declared.share.Share.{Share}
+use Rattle.share_state.specs.Names.{is_name, components}
+use Rattle.share_state.specs.State.{has, is_directory, is_read_only, has_entries, is_pending, is_going}
+use Rattle.share_state.specs.Place.{place_of}
+use Rattle.share_state.specs.Leases.{is_elsewhere, no_granting, granting_of}
+use Rattle.share_state.specs.PlainShare.{plain_wanted}
+use Rattle.share_state.specs.Reply.{of_status, refused, unless, granted_reply, opened_reply}
+use Rattle.share_state.specs.Create.{is_disposition, overwrites, has_unshared, refusal_of_key, refusal_of_missing, refusal_of_kind, refusal_of_read_only, or_else, refusal_of_use, refusal_of_there, made, opened, create_at, create_of}
+use Rattle.share_state.specs.Close.{open_of, close_open, close_of}
+use Rattle.share_state.specs.Query.{info_reply, query_open, query_of}
 use Rattle.share_box.specs.Paid.{is_refusal}
 
 -- a reply of a status of a refusal alone

@@ -6,7 +6,7 @@ use Rattle.smb_head.specs.Stream.{Partial, Whole, prefix, frame, first_of, frame
 use Rattle.smb_head.proofs.FrameLaws.{first_of-nil, first_of-frame, first_of-begun}
 use Rattle.smb_head.proofs.StreamLaws.{IsSettled, settled-partial, frames_in-whole, rest_in-whole}
 use Rattle.smb_chain.specs.declared.parts.BadNext.{BadNext}
-use Rattle.share_spec.specs.declared.connection.Owed.{Owed}
+use Rattle.share_state.specs.declared.connection.Owed.{Owed}
 use Rattle.fs_plain.specs.World.{messages_in}
 use Rattle.fs_plain.specs.Honest.{ArePaid, MayBeHeld}
 use Rattle.share_box.specs.Paid.{IsPayment}

@@ -3,12 +3,12 @@ use Rattle.std.proofs.Common.{◌≡◌, ◌∙◌, ℕ, ◌==◌, ◌&&◌, Boo
 use Rattle.std.specs.Prelude.{◌⊎◌}
 use Rattle.smb_head.proofs.FrameLaws.{first_of-nil}
 use Rattle.smb_base.specs.declared.names.Mid.{Mid}
-use Rattle.share_spec.specs.declared.connection.Sent.{Sent}
-use Rattle.share_spec.specs.declared.request.Req.{Req}
-use Rattle.share_spec.specs.declared.share.Share.{Share}
-use Rattle.share_spec.specs.Sent.{sent_but, sent_with}
-use Rattle.share_spec.specs.Built.{is_built}
-use Rattle.share_spec.specs.Step.{step_of}
+use Rattle.share_state.specs.declared.connection.Sent.{Sent}
+use Rattle.share_state.specs.declared.request.Req.{Req}
+use Rattle.share_state.specs.declared.share.Share.{Share}
+use Rattle.share_state.specs.Sent.{sent_but, sent_with}
+use Rattle.share_state.specs.Built.{is_built}
+use Rattle.share_state.specs.Step.{step_of}
 use Rattle.smb_link.specs.declared.event.Event.{Event}
 use Rattle.smb_link.specs.declared.event.Event.TheVariants as event
 use Rattle.smb_link.specs.declared.mark.Mark.{Mark}

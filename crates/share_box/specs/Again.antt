@@ -3,9 +3,9 @@ use Rattle.std.specs.Prelude.{◌≡◌, ℕ, ◌==◌, Bool, true, false, List,
 use Rattle.smb_field.specs.declared.field.Field.{Field}
 use Rattle.smb_field.specs.Body.{IsReadAgain}
 use Rattle.smb_field.specs.Structure.{spelling_in, IsReadAgainIn}
-use Rattle.share_spec.specs.declared.request.Rep.{Rep}
-use Rattle.share_spec.specs.declared.request.RepBody.{RepBody}
-use Rattle.share_spec.specs.declared.request.RepBody.TheVariants as body
+use Rattle.share_state.specs.declared.request.Rep.{Rep}
+use Rattle.share_state.specs.declared.request.RepBody.{RepBody}
+use Rattle.share_state.specs.declared.request.RepBody.TheVariants as body
 use Rattle.share_box.specs.declared.bodies.Said.{Said}
 use Rattle.share_box.specs.declared.bodies.Said.TheVariants.{Negotiated, Challenge, Session, Tree, Done, Share}
 use Rattle.share_box.specs.Bodies.{negotiated, challenge, session, tree, empty, error, opened, closed, information, information_size, buffer}

@@ -10,7 +10,7 @@ use Rattle.smb_head.specs.declared.head.Route.TheVariants.{Sync, Async}
 use Rattle.smb_head.specs.Header.{head_of}
 use Rattle.smb_head.specs.Stream.{frame}
 use Rattle.smb_chain.specs.Chain.{chain, message as message_of}
-use Rattle.share_spec.specs.Reply.{of_status}
+use Rattle.share_state.specs.Reply.{of_status}
 use Rattle.share_box.specs.declared.bodies.Said.{Said}
 use Rattle.share_box.specs.declared.bodies.Said.TheVariants as said
 use Rattle.smb_field.specs.Rows.{if_read}

@@ -6,10 +6,10 @@ use Rattle.smb_field.specs.declared.field.Field.{Field}
 use Rattle.smb_field.specs.declared.field.Field.TheVariants.{U8, U16, U32, U64, Block, Any8, Any16, Any32, Offset16, Offset32, Follows}
 use Rattle.smb_field.specs.Body.{spelling}
 use Rattle.smb_field.specs.Structure.{spelling_in}
-use Rattle.share_spec.specs.declared.request.Rep.{Rep}
-use Rattle.share_spec.specs.declared.request.RepBody.{RepBody}
-use Rattle.share_spec.specs.declared.request.RepBody.TheVariants as body
-use Rattle.share_spec.specs.Reply.{attributes_of}
+use Rattle.share_state.specs.declared.request.Rep.{Rep}
+use Rattle.share_state.specs.declared.request.RepBody.{RepBody}
+use Rattle.share_state.specs.declared.request.RepBody.TheVariants as body
+use Rattle.share_state.specs.Reply.{attributes_of}
 use Rattle.fs_plain.specs.Masked.{Untold}
 use Rattle.share_box.specs.declared.bodies.Said.{Said}
 use Rattle.share_box.specs.declared.bodies.Said.TheVariants.{Negotiated, Challenge, Session, Tree, Done, Share}

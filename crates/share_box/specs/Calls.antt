@@ -12,8 +12,8 @@ use Rattle.smb_link.specs.declared.mark.Mark.{Mark}
 use Rattle.smb_link.specs.declared.places.Place.{Place}
 use Rattle.smb_link.specs.Count.{counted}
 use Rattle.smb_link.specs.Story.{is_of_share, is_failed, connect_cuts, StandsAfterConnect, Gains, GainsByConnect, join_events}
-use Rattle.share_spec.specs.Cut.{after_cut, after_join}
-use Rattle.share_spec.specs.State.{fresh_share}
+use Rattle.share_state.specs.Cut.{after_cut, after_join}
+use Rattle.share_state.specs.State.{fresh_share}
 use Rattle.share_box.specs.declared.schedule.Turn.{Turn}
 use Rattle.share_box.specs.declared.schedule.Schedule.{Schedule}
 use Rattle.share_box.specs.declared.schedule.Schedule.TheVariants as schedule

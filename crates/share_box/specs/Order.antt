@@ -1,7 +1,7 @@
 -- Which of the requests that wait may be served: of each frame the oldest one.
 use Rattle.std.specs.Prelude.{Bool, false, List, map, filter, Option, Some, None}
 use Rattle.smb_base.specs.declared.names.Mid.{Mid}
-use Rattle.share_spec.specs.declared.connection.Sent.{Sent}
+use Rattle.share_state.specs.declared.connection.Sent.{Sent}
 use Rattle.fs_plain.specs.World.{is_first_of_frame}
 
 -- their ids, in the order of their frames

@@ -2,7 +2,7 @@
 use Rattle.std.specs.Prelude.{ℕ, Bool, true, false, not, ◌&&◌, is_none, Result, Ok, Err}
 use Rattle.smb_field.specs.declared.field.BodyFault.{BodyFault}
 use Rattle.smb_body_b.specs.declared.contexts.ContextSet.{ContextSet}
-use Rattle.share_spec.specs.Built.{is_built}
+use Rattle.share_state.specs.Built.{is_built}
 use Rattle.fs_plain.specs.Requests.{WireRequest, asked_lease}
 use Rattle.share_box.specs.declared.requests.ParsedRequest.{ParsedRequest}
 use Rattle.share_box.specs.declared.requests.ParsedRequest.TheVariants.{Aside, Share}

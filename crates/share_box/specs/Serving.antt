@@ -4,17 +4,17 @@ use Rattle.smb_base.specs.declared.names.Mid.{Mid}
 use Rattle.smb_head.specs.declared.head.Head.{Head}
 use Rattle.smb_head.specs.declared.head.HeadFault.{HeadFault}
 use Rattle.smb_head.specs.Header.{head_of}
-use Rattle.share_spec.specs.declared.connection.LastCreate.{LastCreate}
-use Rattle.share_spec.specs.declared.connection.Sent.{Sent}
-use Rattle.share_spec.specs.declared.request.Who.{Who}
-use Rattle.share_spec.specs.declared.request.Rep.{Rep}
-use Rattle.share_spec.specs.declared.request.Req.{Req}
-use Rattle.share_spec.specs.declared.share.Share.{Share}
-use Rattle.share_spec.specs.Breaks.{needs_of}
-use Rattle.share_spec.specs.Built.{is_built}
-use Rattle.share_spec.specs.Reply.{of_status}
-use Rattle.share_spec.specs.Sent.{sent_with}
-use Rattle.share_spec.specs.Step.{step_of}
+use Rattle.share_state.specs.declared.connection.LastCreate.{LastCreate}
+use Rattle.share_state.specs.declared.connection.Sent.{Sent}
+use Rattle.share_state.specs.declared.request.Who.{Who}
+use Rattle.share_state.specs.declared.request.Rep.{Rep}
+use Rattle.share_state.specs.declared.request.Req.{Req}
+use Rattle.share_state.specs.declared.share.Share.{Share}
+use Rattle.share_state.specs.Breaks.{needs_of}
+use Rattle.share_state.specs.Built.{is_built}
+use Rattle.share_state.specs.Reply.{of_status}
+use Rattle.share_state.specs.Sent.{sent_with}
+use Rattle.share_state.specs.Step.{step_of}
 use Rattle.fs_plain.specs.Requests.{WireRequest, wire_request}
 use Rattle.fs_plain.specs.World.{us, is_first_of_frame, resolved, refused_before, after_create}
 use Rattle.share_box.specs.declared.bodies.Said.{Said}

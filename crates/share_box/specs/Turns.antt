@@ -1,14 +1,14 @@
 -- The turns of a box: which one is next, and what each does.
 use Rattle.std.specs.Prelude.{ℕ, ◌==◌, Bool, true, false, not, ◌&&◌, if◌then◌else◌, List, [], ◌∷◌, ◌++◌, take, map, slice_get, Option, Some, None}
 use Rattle.smb_base.specs.declared.names.Mid.{Mid}
-use Rattle.share_spec.specs.declared.connection.Sent.{Sent}
-use Rattle.share_spec.specs.declared.request.Req.{Req}
-use Rattle.share_spec.specs.declared.share.Share.{Share}
-use Rattle.share_spec.specs.Built.{is_built}
-use Rattle.share_spec.specs.Step.{step_of}
+use Rattle.share_state.specs.declared.connection.Sent.{Sent}
+use Rattle.share_state.specs.declared.request.Req.{Req}
+use Rattle.share_state.specs.declared.share.Share.{Share}
+use Rattle.share_state.specs.Built.{is_built}
+use Rattle.share_state.specs.Step.{step_of}
 use Rattle.smb_link.specs.declared.event.Event.{Event}
 use Rattle.smb_link.specs.declared.event.Event.TheVariants as event
-use Rattle.share_spec.specs.Sent.{put_off, sent_but, sent_with}
+use Rattle.share_state.specs.Sent.{put_off, sent_but, sent_with}
 use Rattle.share_box.specs.declared.bodies.Said.{Said}
 use Rattle.share_box.specs.declared.schedule.Turn.{Turn}
 use Rattle.share_box.specs.declared.schedule.Turn.TheVariants as turn

@@ -9,7 +9,7 @@ ghost use Rattle.share_box.specs.Answers.{is_first_message, said_session, said_a
 
 use crate::bodies::{Said, put_body, status_of};
 use crate::requests::STANDARD;
-use share_spec::{Rep, RepBody};
+use share_state::{Rep, RepBody};
 use smb_base::{Bytes, NoMemory, Status};
 use smb_body_a::read_session_setup_request;
 use smb_body_c::read_query_info_request;

@@ -4,11 +4,11 @@ ghost use Rattle.std.specs.Prelude.{◌≡◌, ◌++◌, ◌≤◌, [], OnOk, le
 ghost use Rattle.smb_field.specs.Body.{spelling, IsReadAgain};
 ghost use Rattle.smb_field.specs.Structure.{spelling_in};
 ghost use Rattle.smb_info.specs.Attributes.{all as fields_of_all, standard as fields_of_standard};
-ghost use Rattle.share_spec.specs.Reply.{attributes_of};
+ghost use Rattle.share_state.specs.Reply.{attributes_of};
 ghost use Rattle.share_box.specs.Again.{IsInfoAgain, IsDoneAgain, IsRepAgain, IsBodyAgain};
 ghost use Rattle.share_box.specs.Bodies.{negotiated, session, tree, error, opened, closed, all, standard, buffer, body_done, body_of_rep, body_of, status_of};
 
-use share_spec::{Rep, RepBody};
+use share_state::{Rep, RepBody};
 use smb_base::{Fid, NoMemory, Status};
 use smb_body_a::{
     Empty, NegotiateReply, SessionSetupReply, TreeConnectReply, write_empty, write_negotiate_reply,

@@ -14,7 +14,7 @@ use crate::schedule::{Schedule, Turn};
 use crate::state::{State, accept, end, give, join, lose, note, refuse, wait};
 use crate::turns::{do_turn, next_turn, turns_at_connect};
 use crate::waiting::{TurnsToCome, Waiting};
-use share_spec::Share;
+use share_state::Share;
 use smb_base::NoMemory;
 use smb_link::{EventList, Got, Link, LinkFail, Mark, PlaceList};
 use std::alloc::Global;

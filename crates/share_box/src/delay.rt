@@ -2,7 +2,7 @@
 
 ghost use Rattle.std.specs.Prelude.{◌≡◌, ◌++◌, ◌∷◌, [], IfOk, OnOk, OnErr, map, option_map};
 ghost use Rattle.smb_link.specs.declared.event.Event.TheVariants as event;
-ghost use Rattle.share_spec.specs.Sent.{sent_with, put_off};
+ghost use Rattle.share_state.specs.Sent.{sent_with, put_off};
 ghost use Rattle.share_box.specs.Calls.{GoesOn};
 ghost use Rattle.share_box.specs.Paid.{PaysInterim};
 ghost use Rattle.share_box.specs.Truth.{Keeps};
@@ -11,7 +11,7 @@ ghost use Rattle.share_box.specs.Turns.{interim_to, delayed, all_delayed};
 use crate::answers::interim;
 use crate::order::find;
 use crate::state::State;
-use share_spec::Sent;
+use share_state::Sent;
 use smb_base::{Bytes, Mid, NoMemory};
 use smb_link::Event;
 use std::alloc::Global;

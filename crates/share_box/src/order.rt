@@ -2,11 +2,11 @@
 
 ghost use Rattle.std.specs.Prelude.{◌≡◌, IfOk};
 ghost use Rattle.std.specs.Option.{option_copied};
-ghost use Rattle.share_spec.specs.Sent.{sent_with};
+ghost use Rattle.share_state.specs.Sent.{sent_with};
 ghost use Rattle.fs_plain.specs.World.{is_first_of_frame};
 ghost use Rattle.share_box.specs.Order.{waiting_ids};
 
-use share_spec::Sent;
+use share_state::Sent;
 use smb_base::{Mid, NoMemory};
 use std::alloc::Global;
 

@@ -10,12 +10,12 @@ ghost use Rattle.smb_body_b.specs.Close.{close_request_of};
 ghost use Rattle.smb_body_b.specs.Create.{create_request_of, seen_create_request};
 ghost use Rattle.smb_body_b.specs.Contexts.{read_of};
 ghost use Rattle.smb_body_c.specs.Info.{query_info_request_of};
-ghost use Rattle.share_spec.specs.State.{has};
+ghost use Rattle.share_state.specs.State.{has};
 ghost use Rattle.fs_plain.specs.Wire.{units_in};
 ghost use Rattle.fs_plain.specs.Requests.{wire_request, is_aside, create_asked, close_asked, is_query, query_asked, by_command, asked_lease, WireRequest};
 ghost use Rattle.share_box.specs.Parsed.{wire_request_of, is_taken, is_plain, are_plain};
 
-use share_spec::Req;
+use share_state::Req;
 use smb_base::{NoMemory, Units};
 use smb_body_a::{
     read_empty, read_negotiate_request, read_session_setup_request, read_tree_connect_request,

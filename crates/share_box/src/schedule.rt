@@ -2,7 +2,7 @@
 
 ghost use Rattle.std.specs.Prelude.{◌≡◌, ◌++◌, ◌∷◌, [], OnOk, OnErr};
 
-use share_spec::Req;
+use share_state::Req;
 use smb_base::NoMemory;
 use std::alloc::Global;
 use std::marker::Model;

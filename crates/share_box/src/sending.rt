@@ -5,7 +5,7 @@ ghost use Rattle.smb_chain.specs.Parts.{parts_of};
 ghost use Rattle.fs_plain.specs.World.{mid_of, first_mid, requests_among, requests_in};
 
 use crate::requests::what_is_asked;
-use share_spec::{LastCreate, Sent, SentList};
+use share_state::{LastCreate, Sent, SentList};
 use smb_base::{Bytes, Mid, NoMemory};
 use smb_chain::{first_part, split};
 use smb_head::first_frame;

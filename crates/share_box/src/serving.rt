@@ -2,10 +2,10 @@
 
 ghost use Rattle.std.specs.Prelude.{◌≡◌, true, None, IfOk, IfSome, OnErr, option_map};
 ghost use Rattle.smb_head.specs.Header.{head_of};
-ghost use Rattle.share_spec.specs.Built.{is_built};
-ghost use Rattle.share_spec.specs.Reply.{of_status, map_fid};
-ghost use Rattle.share_spec.specs.Sent.{sent_with};
-ghost use Rattle.share_spec.specs.Step.{step_of};
+ghost use Rattle.share_state.specs.Built.{is_built};
+ghost use Rattle.share_state.specs.Reply.{of_status, map_fid};
+ghost use Rattle.share_state.specs.Sent.{sent_with};
+ghost use Rattle.share_state.specs.Step.{step_of};
 ghost use Rattle.fs_plain.specs.World.{us, followed, is_creating, refusal_before, refused_before, resolved, came_to, after_create};
 ghost use Rattle.share_box.specs.declared.bodies.Said.TheVariants as said;
 ghost use Rattle.share_box.specs.Paid.{GrantsNothing};
@@ -15,7 +15,8 @@ use crate::answers::said_aside;
 use crate::bodies::Said;
 use crate::order::{find, is_first_of_frame, waiting_ids};
 use crate::requests::{ParsedRequest, what_is_asked};
-use share_spec::{LastCreate, Rep, RepBody, Req, Sent, SentList, Share, Who, conflicts, step};
+use share_spec::{conflicts, step};
+use share_state::{LastCreate, Rep, RepBody, Req, Sent, SentList, Share, Who};
 use smb_base::{Fid, Mid, NoMemory, Status};
 use smb_head::read_head;
 use std::alloc::Global;
@@ -105,6 +106,44 @@ fn with_fid(fid: Fid, r: Req) -> Req
     match r {
         Req::Close { .. } => Req::Close { fid },
         Req::Query { .. } => Req::Query { fid },
+        Req::Flush { .. } => Req::Flush { fid },
+        Req::Room { .. } => Req::Room { fid },
+        Req::Read { offset, length, .. } => Req::Read {
+            fid,
+            offset,
+            length,
+        },
+        Req::Write { offset, bytes, .. } => Req::Write { fid, offset, bytes },
+        Req::Lock {
+            offset,
+            length,
+            exclusive,
+            ..
+        } => Req::Lock {
+            fid,
+            offset,
+            length,
+            exclusive,
+        },
+        Req::Unlock { offset, length, .. } => Req::Unlock {
+            fid,
+            offset,
+            length,
+        },
+        Req::List {
+            restart,
+            length,
+            ..
+        } => Req::List {
+            fid,
+            restart,
+            length,
+        },
+        Req::SetBasic { attributes, .. } => Req::SetBasic { fid, attributes },
+        Req::SetEnd { size, .. } => Req::SetEnd { fid, size },
+        Req::SetPending { on, .. } => Req::SetPending { fid, on },
+        Req::Rename { replace, path, .. } => Req::Rename { fid, replace, path },
+        Req::LinkTo { replace, path, .. } => Req::LinkTo { fid, replace, path },
         r => r,
     }
 }

@@ -2,14 +2,15 @@
 
 ghost use Rattle.std.specs.Prelude.{◌≡◌, ◌∷◌, [], ◌<◌, false, min, take, IfOk, OnOk, OnErr, length};
 ghost use Rattle.smb_link.specs.declared.event.Event.TheVariants as event;
-ghost use Rattle.share_spec.specs.Cut.{after_join};
+ghost use Rattle.share_state.specs.Cut.{after_join};
 ghost use Rattle.share_box.specs.Paid.{AreProper};
 ghost use Rattle.share_box.specs.Truth.{IsUntold};
 ghost use Rattle.share_box.specs.Calls.{ended, accepted, joined, refused, given, waited, marked, GoesOn};
 
 use crate::sending::add_requests;
 use crate::waiting::{TurnsToCome, Waiting};
-use share_spec::{OwedList, SentList, Share, cut};
+use share_spec::cut;
+use share_state::{OwedList, SentList, Share};
 use smb_base::{Bytes, NoMemory};
 use smb_link::{Event, EventList, Mark};
 use std::alloc::Global;

@@ -1,8 +1,8 @@
 //! The turns of a box: which one is next, and what it does.
 
 ghost use Rattle.std.specs.Prelude.{◌≡◌, ◌+◌, ◌++◌, ◌∷◌, true, IfOk, OnOk, OnErr, length};
-ghost use Rattle.share_spec.specs.Built.{is_built};
-ghost use Rattle.share_spec.specs.Sent.{sent_with};
+ghost use Rattle.share_state.specs.Built.{is_built};
+ghost use Rattle.share_state.specs.Sent.{sent_with};
 ghost use Rattle.share_box.specs.declared.schedule.Turn.TheVariants as turn;
 ghost use Rattle.share_box.specs.Order.{is_next};
 ghost use Rattle.share_box.specs.Serving.{is_servable, plan_of};
@@ -17,7 +17,8 @@ use crate::order::waiting_ids;
 use crate::schedule::Turn;
 use crate::serving::{do_plan, is_servable, plan_for, request};
 use crate::state::State;
-use share_spec::{Req, Sent, Share, Who, conflicts};
+use share_spec::conflicts;
+use share_state::{Req, Sent, Share, Who};
 use smb_base::{Mid, NoMemory};
 use smb_link::{Event, EventList};
 use std::alloc::Global;

@@ -1,6 +1,1 @@
-mod Examples
-mod Rows
 pub mod Cuts
-pub mod Plainly
-pub mod Most
-pub mod SentLaws

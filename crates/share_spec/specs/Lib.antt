@@ -1,15 +1,2 @@
-pub mod Names
-pub mod Built
-pub mod State
-pub mod Place
-pub mod Reply
-pub mod Leases
-pub mod Create
-pub mod Close
-pub mod Query
-pub mod Step
-pub mod Cut
-pub mod Sent
-pub mod Breaks
-pub mod PlainShare
-pub mod Grants
+pub mod Endings
+pub mod Gone

@@ -1,20 +1,18 @@
 //! The breaks that a request has to wait for.
 
 ghost use Rattle.std.specs.Prelude.{◌≡◌, true, IfOk};
-ghost use Rattle.share_spec.specs.Built.{is_built};
-ghost use Rattle.share_spec.specs.Breaks.{bits_of_create, is_beneath, gone_from, is_own, needs_on, is_refused_early, needs_at, needs_of_create, needs_of};
+ghost use Rattle.share_state.specs.Built.{is_built};
+ghost use Rattle.share_state.specs.Breaks.{bits_of_create, gone_with, gone_from, is_own, needs_on, is_refused_early, needs_at, needs_of_create, needs_of};
 
 use crate::create::{
-    Wanted, has, is_disposition, overwrites, refusal_of_key, refusal_of_kind, refusal_of_read_only,
+    has_unshared, is_disposition, overwrites, refusal_of_key, refusal_of_kind, refusal_of_read_only,
 };
-use crate::entry::{Entry, is_pending};
-use crate::lease::{BreakNeeds, Lease, bits, holds, is_lease_of, lowered};
-use crate::names::{are_names, components};
-use crate::node::is_directory;
-use crate::opens::has_unshared;
-use crate::place::{Found, Place, place_of};
-use crate::request::{Req, Who};
-use crate::share::Share;
+use crate::needs::{needs_of_data, needs_of_mark, needs_of_rename};
+use share_names::{are_names, components, is_beneath, place_of};
+use share_state::{
+    BreakNeeds, Found, Lease, Place, Req, Share, Wanted, Who, bits, has, holds, is_directory,
+    is_lease_of, is_pending, lowered,
+};
 use smb_base::{Key, NoMemory, Units};
 use std::alloc::Global;
 
@@ -23,6 +21,12 @@ const CREATE: u32 = 2;
 const DELETE_ON_CLOSE: u32 = 0x1000;
 
 const DATA: u32 = 7;
+
+// The bit W of a lease.
+const WRITING: u8 = 4;
+
+// The bits R and W of a lease.
+const READING_AND_WRITING: u8 = 5;
 
 // The bits of other leases that a Create of what is there has to see gone.
 fn bits_of_create(s: &Share, w: Wanted, node: u64) -> u8
@@ -37,22 +41,18 @@ fn bits_of_create(s: &Share, w: Wanted, node: u64) -> u8
     )
 }
 
-// A node lies beneath a directory, at most as many levels down as `levels` is long.
-fn is_beneath(levels: &[Entry], entries: &[Entry], directory: u64, node: u64) -> bool
-    ensures { result ≡ is_beneath levels.now entries.now directory node }
+// The bits that a lease has to lose where a node is to be deleted or renamed.
+pub(crate) fn gone_with(s: &Share, node: u64, lease: &Lease) -> u8
+    ensures { result ≡ gone_with s.now node lease.now }
 {
-    let Some((_, fewer)) = levels.split_first() else {
-        return false;
-    };
-    for entry in entries {
-        if entry.node == node
-            && (entry.directory == directory
-                || is_beneath(fewer, entries, directory, entry.directory))
-        {
-            return true;
-        }
+    let entries = s.entries.as_slice();
+    if lease.node == node
+        || !is_directory(s.nodes.as_slice(), lease.node)
+            && is_beneath(entries, entries, node, lease.node)
+    {
+        return 2;
     }
-    false
+    0
 }
 
 // The bits that a lease has to lose for a Create of what is there.
@@ -62,12 +62,8 @@ fn gone_from(s: &Share, w: Wanted, node: u64, lease: &Lease) -> u8
     if lease.node == node {
         return bits_of_create(s, w, node);
     }
-    let entries = s.entries.as_slice();
-    if has(w.options, DELETE_ON_CLOSE)
-        && !is_directory(s.nodes.as_slice(), lease.node)
-        && is_beneath(entries, entries, node, lease.node)
-    {
-        return 2;
+    if has(w.options, DELETE_ON_CLOSE) {
+        return gone_with(s, node, lease);
     }
     0
 }
@@ -181,6 +177,14 @@ pub fn conflicts(alloc: Global, s: &Share, who: Who, r: &Req) -> Result<BreakNee
                 durable: *durable,
             };
             needs_of_create(alloc, s, who, path, wanted)
+        }
+        Req::Read { fid, .. } => needs_of_data(alloc, s, who, *fid, WRITING),
+        Req::Write { fid, .. } => needs_of_data(alloc, s, who, *fid, READING_AND_WRITING),
+        Req::SetEnd { fid, .. } => needs_of_data(alloc, s, who, *fid, READING_AND_WRITING),
+        Req::Lock { fid, .. } => needs_of_data(alloc, s, who, *fid, READING_AND_WRITING),
+        Req::SetPending { fid, on } => needs_of_mark(alloc, s, who, *fid, *on),
+        Req::Rename { fid, replace, path } => {
+            needs_of_rename(alloc, s, who, *fid, *replace, path)
         }
         _ => Ok(BreakNeeds::new(alloc)),
     }

@@ -1,12 +1,9 @@
 //! Close, and what goes with an open.
 
 ghost use Rattle.std.specs.Prelude.{◌≡◌};
-ghost use Rattle.share_spec.specs.Close.{settled, ended, after_delete, close_of};
+ghost use Rattle.share_state.specs.Close.{settled, ended, after_delete, close_of};
 
-use crate::entry::{EntryList, has_entries};
-use crate::opens::open_of;
-use crate::request::{Rep, Who, of_status};
-use crate::share::Share;
+use share_state::{EntryList, Rep, Share, Who, has_entries, of_status, open_of};
 use smb_base::{Fid, Status};
 
 // Takes off what nothing holds any more.

@@ -1,21 +1,19 @@
 //! Create, with the lease and the durable open that it may want. As much is granted of these as may be.
 
 ghost use Rattle.std.specs.Prelude.{◌≡◌, ◌+◌, IfOk, OnOk, OnErr, None, option_map};
-ghost use Rattle.share_spec.specs.State.{has};
-ghost use Rattle.share_spec.specs.Reply.{attributes_of, granted_reply};
-ghost use Rattle.share_spec.specs.Leases.{granting_of, with_granting};
-ghost use Rattle.share_spec.specs.Create.{is_disposition, overwrites, is_within, takes_part, is_unshared, refusal_of_key, refusal_of_missing, refusal_of_kind, refusal_of_read_only, refusal_of_use, refusal_of_there, open_with, with_open, with_new, made, opened, create_at, create_of};
-ghost use Rattle.share_spec.specs.declared.place.Place.TheVariants.{Missing, There};
+ghost use Rattle.share_state.specs.State.{has};
+ghost use Rattle.share_state.specs.Reply.{attributes_of, granted_reply};
+ghost use Rattle.share_state.specs.Leases.{granting_of, with_granting};
+ghost use Rattle.share_state.specs.Create.{is_disposition, overwrites, is_within, takes_part, is_unshared, has_unshared, refusal_of_key, refusal_of_missing, refusal_of_kind, refusal_of_read_only, refusal_of_use, refusal_of_there, open_with, with_open, with_new, made, opened, create_at, create_of};
+ghost use Rattle.share_state.specs.declared.place.Place.TheVariants.{Missing, There};
 
-use crate::entry::{Entry, has_entries, is_going, is_pending};
-use crate::granting::{Granting, grant, granting_of, is_elsewhere};
-use crate::names::{are_names, components};
-use crate::node::{Node, is_directory, is_read_only, size_of};
-use crate::opens::{Open, has_unshared};
-use crate::place::{Found, Place, place_of};
-use crate::request::{Rep, RepBody, Who, of_status};
-use crate::share::Share;
-use smb_base::{Bytes, Fid, Key, NoMemory, Status, Units};
+use crate::granting::{grant, granting_of, is_elsewhere};
+use share_names::{are_names, components, place_of};
+use share_state::{
+    Entry, Found, Granting, Node, Open, Place, Rep, RepBody, Share, Wanted, Who, has, has_entries,
+    is_directory, is_going, is_pending, is_read_only, of_status, size_of,
+};
+use smb_base::{Bytes, Fid, NoMemory, Status, Units};
 use std::alloc::Global;
 
 const OPEN: u32 = 1;
@@ -39,32 +37,6 @@ const WRITE_OR_APPEND: u32 = 6;
 const DELETE: u32 = 0x10000;
 
 const TAKES_PART: u32 = 0x10007;
-
-/// What a Create wants beside its path.
-#[derive(Clone, Copy)]
-pub struct Wanted {
-    /// What the open is to do (MS-SMB2 2.2.13.1).
-    pub access: u32,
-    /// What others may do meanwhile: 1 reading, 2 writing, 4 deleting.
-    pub share: u32,
-    /// OPEN 1, CREATE 2, OPEN_IF 3, OVERWRITE 4, OVERWRITE_IF 5.
-    pub disposition: u32,
-    /// DIRECTORY_FILE 1, NON_DIRECTORY_FILE 0x40, DELETE_ON_CLOSE 0x1000.
-    pub options: u32,
-    /// The attributes of what is made (MS-FSCC 2.6).
-    pub attributes: u32,
-    /// The lease: its key and its state.
-    pub lease: Option<(Key, u8)>,
-    /// A durable open.
-    pub durable: bool,
-}
-
-// The number has one of these bits.
-pub(crate) fn has(number: u32, bits: u32) -> bool
-    ensures { result ≡ has number bits }
-{
-    number & bits != 0
-}
 
 // The disposition is one of the five.
 pub(crate) fn is_disposition(disposition: u32) -> bool
@@ -103,6 +75,15 @@ pub(crate) fn is_unshared(w: Wanted, other: &Open) -> bool
     takes_part(w.access)
         && takes_part(other.access)
         && !(is_within(w.access, other.share) && is_within(other.access, w.share))
+}
+
+// Some open of the node does not go together with what is wanted.
+pub(crate) fn has_unshared(opens: &[Open], node: u64, w: Wanted) -> bool
+    ensures { result ≡ has_unshared opens.now node w }
+{
+    opens
+        .iter()
+        .any(|open| open.node == node && is_unshared(w, open))
 }
 
 // Why a Create is refused whose key stands on another node.

@@ -1,28 +1,15 @@
 //! What a Create is granted: a lease, and whether its open is durable.
 
 ghost use Rattle.std.specs.Prelude.{◌≡◌, OnOk, OnErr, None};
-ghost use Rattle.share_spec.specs.Leases.{has_lock, has_elsewhere, is_elsewhere, is_of_another, is_locked, is_to_go, is_used, free_bits, raised, greatest, greatest_on, no_granting, granting_with, granting_of, with_granting};
+ghost use Rattle.share_state.specs.Leases.{has_lock, has_elsewhere, is_elsewhere, is_of_another, is_locked, is_to_go, is_used, free_bits, raised, greatest, greatest_on, no_granting, granting_with, granting_of, with_granting};
 
-use crate::create::{Wanted, has};
-use crate::lease::{Lease, bits, holds, is_lease_of, is_taken, lease_of, lowered};
-use crate::lock::Lock;
-use crate::opens::{Open, is_key_of};
-use crate::request::Who;
-use crate::share::Share;
+use share_state::{
+    Granting, Lease, Lock, Open, Share, Wanted, Who, bits, has, holds, is_key_of, is_lease_of,
+    is_taken, lease_of, lowered,
+};
 use smb_base::{Key, NoMemory};
 
 const DATA: u32 = 7;
-
-/// What a Create is granted.
-#[derive(Clone, Copy)]
-pub struct Granting {
-    /// The key that its open gets, if it gets one.
-    pub key: Option<Key>,
-    /// The state that the lease under the key has from then on.
-    pub state: u8,
-    /// The open is durable.
-    pub durable: bool,
-}
 
 // A lease of the client under the key is on another node.
 fn has_elsewhere(leases: &[Lease], who: Who, key: Key, node: u64) -> bool

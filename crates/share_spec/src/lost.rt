@@ -1,14 +1,11 @@
 //! What a lost connection leaves (MS-SMB2 3.3.7.1).
 
 ghost use Rattle.std.specs.Prelude.{◌≡◌, IfOk, OnOk, OnErr, map, filter};
-ghost use Rattle.share_spec.specs.Cut.{is_broken, ends_with, ending_of, all_ended, after_cut};
+ghost use Rattle.share_state.specs.Cut.{is_broken, ends_with, after_cut};
+ghost use Rattle.share_spec.specs.Endings.{ending_of, all_ended};
 
 use crate::close::end;
-use crate::connection::{OwedList, SentList};
-use crate::lease::Lease;
-use crate::opens::{Open, is_key_of};
-use crate::request::Who;
-use crate::share::Share;
+use share_state::{Lease, Open, OwedList, SentList, Share, Who, is_key_of};
 use smb_base::{Bytes, NoMemory};
 use std::alloc::Global;
 

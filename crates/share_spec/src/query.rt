@@ -1,13 +1,12 @@
 //! Query.
 
 ghost use Rattle.std.specs.Prelude.{◌≡◌};
-ghost use Rattle.share_spec.specs.Query.{info_reply, query_of};
+ghost use Rattle.share_state.specs.Query.{info_reply, query_of};
 
-use crate::entry::{is_pending, links_of};
-use crate::node::{is_directory, is_read_only, size_of};
-use crate::opens::open_of;
-use crate::request::{Rep, RepBody, Who, of_status};
-use crate::share::Share;
+use share_state::{
+    Rep, RepBody, Share, Who, is_directory, is_pending, is_read_only, links_of, of_status, open_of,
+    size_of,
+};
 use smb_base::{Fid, Status};
 
 // What is known of the file of an open.

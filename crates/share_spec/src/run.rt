@@ -1,14 +1,16 @@
 //! One request and its reply.
 
 ghost use Rattle.std.specs.Prelude.{◌≡◌, true, IfOk, OnErr, None};
-ghost use Rattle.share_spec.specs.Built.{is_built};
-ghost use Rattle.share_spec.specs.Step.{step_of};
+ghost use Rattle.share_state.specs.Built.{is_built};
+ghost use Rattle.share_state.specs.Step.{step_of};
 
 use crate::close::close;
-use crate::create::{Wanted, create};
+use crate::create::create;
 use crate::query::query;
-use crate::request::{Rep, Req, Who, of_status};
-use crate::share::Share;
+use share_data::{flush, lock, read, room, set_basic, set_end, unlock, write};
+use share_list::list;
+use share_names::{link_to, rename, set_pending};
+use share_state::{Rep, Req, Share, Wanted, Who, of_status};
 use smb_base::{NoMemory, Status};
 use std::alloc::Global;
 
@@ -43,6 +45,37 @@ pub fn step(alloc: Global, s: &mut Share, who: Who, r: &Req) -> Result<Rep, NoMe
         }
         Req::Close { fid } => Ok(close(s, who, *fid)),
         Req::Query { fid } => Ok(query(s, who, *fid)),
+        Req::Flush { fid } => Ok(flush(s, who, *fid)),
+        Req::Room { fid } => Ok(room(s, who, *fid)),
+        Req::Read {
+            fid,
+            offset,
+            length,
+        } => read(alloc, s, who, *fid, *offset, *length),
+        Req::Write { fid, offset, bytes } => {
+            write(alloc, s, who, *fid, *offset, bytes.as_slice())
+        }
+        Req::Lock {
+            fid,
+            offset,
+            length,
+            exclusive,
+        } => lock(s, who, *fid, *offset, *length, *exclusive),
+        Req::Unlock {
+            fid,
+            offset,
+            length,
+        } => Ok(unlock(s, who, *fid, *offset, *length)),
+        Req::List {
+            fid,
+            restart,
+            length,
+        } => list(alloc, s, who, *fid, *restart, *length),
+        Req::SetBasic { fid, attributes } => Ok(set_basic(s, who, *fid, *attributes)),
+        Req::SetEnd { fid, size } => set_end(alloc, s, who, *fid, *size),
+        Req::SetPending { fid, on } => Ok(set_pending(s, who, *fid, *on)),
+        Req::Rename { fid, replace, path } => rename(alloc, s, who, *fid, *replace, path),
+        Req::LinkTo { fid, replace, path } => link_to(alloc, s, who, *fid, *replace, path),
         _ => Ok(of_status(Status::NOT_SUPPORTED)),
     }
 }

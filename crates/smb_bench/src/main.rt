@@ -7,11 +7,13 @@ mod client;
 mod frames;
 mod replies;
 mod requests;
+mod share;
 
 use anyhow::{Context, Result, ensure};
 use client::{Client, Counts};
 use frames::{copied, stream_of, through_frames};
 use requests::{echoing, exchanged, hostile};
+use share::{OpenFile, PIECE, listed, share_with};
 use std::env;
 use std::rt::{Clock, Env};
 use std::time::Instant;
@@ -29,6 +31,12 @@ const IN_FLIGHT: [u16; 4] = [1, 16, 256, 4_096];
 
 // In how many lanes the calls of a client run.
 const LANES: [u8; 3] = [1, 4, 16];
+
+// How many pieces a file has that is read and written, and how many names a directory that is listed: one for the counts, more for the
+// times.
+const PIECES: [u32; 2] = [16, 1_024];
+
+const NAMES: [u32; 3] = [100, 1_000, 10_000];
 
 // How many frames that no server sends are taken, and the number that they are drawn from.
 const HOSTILE: u32 = 1_000_000;
@@ -72,6 +80,7 @@ fn counts(rt: &(impl Print + AllocGlobal)) -> Result<()> {
     for lanes in LANES {
         print_calls(rt, lanes, calls(rt, lanes, 1_000)?)?;
     }
+    count_share(rt)?;
     let answers = hostile(rt.alloc(), SEED, HOSTILE)?;
     ensure!(
         0 < answers.taken && 0 < answers.malformed && 0 < answers.strangers,
@@ -113,6 +122,49 @@ fn times(rt: &(impl Print + Clock + AllocGlobal), mib: u32) -> Result<()> {
         time_calls(rt, lanes, mib * 1_000)?;
         time_calls(rt, lanes, mib * 10_000)?;
     }
+    for pieces in PIECES {
+        time_file(rt, pieces, mib * 16)?;
+    }
+    for names in NAMES {
+        time_listing(rt, names)?;
+    }
+    Ok(())
+}
+
+// What is read, written and listed at a share.
+fn count_share(rt: &(impl Print + AllocGlobal)) -> Result<()> {
+    let mut file = OpenFile::of(rt.alloc(), 16)?;
+    let written = file.write(16)?;
+    let read = file.read(16)?;
+    println!(rt; "a file of 16 pieces of {PIECE}: {written} bytes written, {read} read")?;
+    let mut share = share_with(rt.alloc(), 100)?;
+    let names = listed(rt.alloc(), &mut share)?;
+    println!(rt; "a directory of 100 files: {names} names")?;
+    Ok(())
+}
+
+// How long it takes to write and to read so many pieces of a file.
+fn time_file(rt: &(impl Print + Clock + AllocGlobal), pieces: u32, many: u32) -> Result<()> {
+    let mut file = OpenFile::of(rt.alloc(), pieces)?;
+    let start = Instant::now(rt)?;
+    let written = file.write(many)?;
+    let writing = start.elapsed(rt)?.as_micros();
+    let start = Instant::now(rt)?;
+    let read = file.read(many)?;
+    let reading = start.elapsed(rt)?.as_micros();
+    println!(rt;
+        "a file of {pieces} pieces of {PIECE}: {written} bytes written in {writing} us, {read} read in {reading} us"
+    )?;
+    Ok(())
+}
+
+// How long it takes to list a directory of so many files.
+fn time_listing(rt: &(impl Print + Clock + AllocGlobal), files: u32) -> Result<()> {
+    let mut share = share_with(rt.alloc(), files)?;
+    let start = Instant::now(rt)?;
+    let names = listed(rt.alloc(), &mut share)?;
+    let micros = start.elapsed(rt)?.as_micros();
+    println!(rt; "a directory of {files} files: {names} names in {micros} us")?;
     Ok(())
 }
 

@@ -7,7 +7,7 @@ use Rattle.smb_names.specs.declared.map.NameMap.TheVariants.{Sfm, Plain}
 use Rattle.smb_names.specs.declared.fault.NameFault.{NameFault}
 use Rattle.smb_names.specs.declared.fault.NameFault.TheVariants.{Reserved}
 use Rattle.smb_names.specs.Path.{components, path_of}
-use Rattle.share_spec.specs.declared.request.Rep.{Rep}
+use Rattle.share_state.specs.declared.request.Rep.{Rep}
 use Rattle.fs_types.specs.declared.options.Options.{Options}
 use Rattle.fs_types.specs.declared.answer.Answer.{Answer}
 use Rattle.fs_types.specs.declared.answer.Answer.TheVariants as answer

@@ -1,8 +1,8 @@
 -- The calls that tell what is known of a file.
 use Rattle.std.specs.Prelude.{ℕ, ◌==◌, Bool, if◌then◌else◌, List, bit_and}
-use Rattle.share_spec.specs.declared.request.Rep.{Rep}
-use Rattle.share_spec.specs.declared.request.RepBody.{RepBody}
-use Rattle.share_spec.specs.declared.request.RepBody.TheVariants as body
+use Rattle.share_state.specs.declared.request.Rep.{Rep}
+use Rattle.share_state.specs.declared.request.RepBody.{RepBody}
+use Rattle.share_state.specs.declared.request.RepBody.TheVariants as body
 use Rattle.fs_types.specs.declared.options.Options.{Options}
 use Rattle.fs_types.specs.declared.names.Kind.{Kind}
 use Rattle.fs_types.specs.declared.names.Kind.TheVariants as kind

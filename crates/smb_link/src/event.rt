@@ -3,7 +3,7 @@
 ghost use Rattle.std.specs.Prelude.{◌≡◌, ◌-◌, ◌++◌, ◌∷◌, [], OnOk, OnErr, length, take};
 
 use crate::mark::Mark;
-use share_spec::{Rep, Req};
+use share_state::{Rep, Req};
 use smb_base::{Bytes, Key, Mid, NoMemory};
 use std::alloc::Global;
 use std::marker::Model;

@@ -1,5 +1,5 @@
 use Rattle.std.proofs.Common.{sym}
-use Rattle.share_spec.specs.Sent.{sent_with}
+use Rattle.share_state.specs.Sent.{sent_with}
 use Rattle.share_box.proofs.Paying.{interim_pays}
 use Rattle.share_box.proofs.delay.interim_to.Goals as goal
 

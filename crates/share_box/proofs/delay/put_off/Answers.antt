@@ -1,5 +1,5 @@
 use Rattle.std.proofs.Common.{◌≡◌, ◌∙◌, sym, Some}
-use Rattle.share_spec.specs.Sent.{sent_with}
+use Rattle.share_state.specs.Sent.{sent_with}
 use Rattle.share_box.specs.Turns.{interim_to}
 use Rattle.share_box.proofs.Going.{delay_goes}
 use Rattle.share_box.proofs.Telling.{delay_keeps}

@@ -1,6 +1,6 @@
 use Rattle.std.proofs.Common.{◌∙◌, List, map, filter, ap}
 use Rattle.std.proofs.lemmas.List.{take_all}
-use Rattle.share_spec.specs.declared.connection.Sent.{Sent}
+use Rattle.share_state.specs.declared.connection.Sent.{Sent}
 use Rattle.fs_plain.specs.World.{is_first_of_frame}
 use Rattle.share_box.specs.Order.{waiting_ids}
 use Rattle.share_box.proofs.order.waiting_ids.Goals as goal

@@ -1,5 +1,5 @@
 use Rattle.std.proofs.Common.{◌≡◌, ◌∙◌, sym, Some}
-use Rattle.share_spec.specs.Sent.{sent_with}
+use Rattle.share_state.specs.Sent.{sent_with}
 use Rattle.share_box.proofs.Ordering.{serves_found}
 use Rattle.share_box.proofs.Telling.{serve_keeps}
 use Rattle.share_box.proofs.turns.serve_id.Goals as goal

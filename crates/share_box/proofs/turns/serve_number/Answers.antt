@@ -2,7 +2,7 @@ use Rattle.std.proofs.Common.{◌≡◌, ◌∙◌, [], false, List, Some, OnOk,
 use Rattle.std.specs.Prelude.{slice_get}
 use Rattle.std.proofs.lemmas.Option.{slice_get_read, slice_get_past}
 use Rattle.smb_base.specs.declared.names.Mid.{Mid}
-use Rattle.share_spec.specs.Sent.{sent_with}
+use Rattle.share_state.specs.Sent.{sent_with}
 use Rattle.share_box.specs.declared.state.State.{State}
 use Rattle.share_box.specs.Order.{waiting_ids, is_next}
 use Rattle.share_box.specs.Turns.{served_at, all_delayed}

@@ -1,6 +1,6 @@
 -- the opens from the index on are still to end
 use Rattle.std.proofs.Common.{◌≡◌, drop}
-use Rattle.share_spec.specs.Cut.{all_ended}
+use Rattle.share_spec.specs.Endings.{all_ended}
 use Rattle.share_spec.proofs.lost.end_all.Given as goal
 
 abbrev pub invariant-loop-one : goal.invariant-loop-one

@@ -1,0 +1,3 @@
+pub mod Begun
+pub mod Indexed
+pub mod Sorted

@@ -1,7 +1,0 @@
--- the messages up to the index are done
-use Rattle.std.proofs.Common.{◌≡◌, ◌++◌, map, take, drop}
-use Rattle.share_spec.specs.Sent.{behind_create}
-use Rattle.share_spec.proofs.connection.tell_in.Given as goal
-
-abbrev pub invariant-loop-one : goal.invariant-loop-one
-invariant-loop-one l = l.sent ≡ map (behind_create l.frame l.last) (take l.one-index l.fn.sent) ++ drop l.one-index l.fn.sent

@@ -1,7 +1,0 @@
--- the opens up to the index are done
-use Rattle.std.proofs.Common.{◌≡◌, ◌++◌, map, take, drop}
-use Rattle.share_spec.specs.Cut.{disconnected}
-use Rattle.share_spec.proofs.opens.disconnect_in.Given as goal
-
-abbrev pub invariant-loop-open : goal.invariant-loop-open
-invariant-loop-open l = l.opens ≡ map (disconnected l.who) (take l.open-index l.fn.opens) ++ drop l.open-index l.fn.opens

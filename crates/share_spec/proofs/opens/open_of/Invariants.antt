@@ -1,7 +1,0 @@
--- no open up to the index is named
-use Rattle.std.proofs.Common.{◌≡◌, drop}
-use Rattle.share_spec.specs.Close.{open_of}
-use Rattle.share_spec.proofs.opens.open_of.Given as goal
-
-abbrev pub invariant-loop-one : goal.invariant-loop-one
-invariant-loop-one l = open_of l.opens l.who l.fid ≡ open_of (drop l.one-index l.opens) l.who l.fid

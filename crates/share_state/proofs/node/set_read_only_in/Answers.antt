@@ -1,0 +1,7 @@
+use Rattle.std.proofs.Common.{rules}
+use Rattle.std.proofs.lemmas.List.Edits.{map_over_more}
+use Rattle.share_state.specs.Marks.{with_read_only}
+use Rattle.share_state.proofs.node.set_read_only_in.Goals as goal
+
+pub loop-node-preserved : goal.loop-node-preserved
+loop-node-preserved c = rw (c.set_read_only_one.ensures, ← c.node-item.is) (map_over_more (with_read_only c.args.number c.args.on) c.args.nodes.now c.loop-node.nodes c.loop-node.node-index c.node-item.result (search rules) c.loop-node.invariant (search rules))
