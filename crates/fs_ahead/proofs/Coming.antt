@@ -1,7 +1,7 @@
 -- The lines of a script, one after the other.
 use Rattle.std.proofs.Common.{◌≡◌, ◌∙◌, refl, sym, ap, subst, ℕ, ◌+◌, ◌<◌, ◌==◌, List, [], ◌∷◌, length, Bool, true, false, cond, IfSome, Option}
 use Rattle.std.proofs.Common.{Some, None, Result, Ok, Err, arith}
-use Rattle.std.specs.Prelude.{IfOk, option_map, nat_lt, IsUtf8, codes}
+use Rattle.std.specs.Prelude.{IfOk, option_map, nat_lt, IsUtf8}
 use Rattle.std.specs.List.{onto_first}
 use Rattle.std.specs.Str.{is_utf8}
 use Rattle.std.proofs.lemmas.Bool.{cond-true, cond-false, false_from_ne_true}
@@ -13,18 +13,14 @@ use Rattle.fs_lines.specs.Line.{first_line, behind, Gives}
 use Rattle.fs_lines.specs.declared.next.NextLine.TheVariants as next
 use Rattle.fs_lines.specs.Told.{Reading, Took, ahead}
 use Rattle.fs_script.specs.declared.line.LineFault.{LineFault}
-use Rattle.fs_types.specs.declared.call.Call.{Call}
-use Rattle.fs_types.specs.declared.call.Call.TheVariants as call
 use Rattle.fs_script.specs.declared.line.Line.{Line}
-use Rattle.fs_script.specs.declared.line.Line.TheVariants as said
-use Rattle.fs_script.specs.Lines.{longest, fault_of, IsLine}
-use Rattle.fs_script.proofs.Faults.{line_has_none, stat_parts}
+use Rattle.fs_script.specs.Lines.{longest, said_by}
 use Rattle.fs_ahead.specs.declared.next.Found.{Found}
 use Rattle.fs_ahead.specs.declared.next.Found.TheVariants as found
 use Rattle.fs_ahead.specs.declared.asked.Asked.TheVariants as asked
 use Rattle.fs_ahead.specs.declared.asked.Over.{Over}
 use Rattle.fs_ahead.specs.declared.asked.Over.TheVariants as over
-use Rattle.fs_ahead.specs.Script.{lines_of, LineWants, Nothing, Pause, Called, Refused, called, called_in, call_in, lane_in, wanted_unless, wanted_by, wanted_at}
+use Rattle.fs_ahead.specs.Script.{lines_of, LineWants, Nothing, Pause, Called, Refused, wanted_of, wanted_by, wanted_at}
 use Rattle.fs_ahead.specs.Script.{greatest, wanted_then, Coming, ends_by, coming_behind, coming_from, coming_ahead, asked_then, unless_over}
 use Rattle.fs_ahead.specs.Script.{lines_to_come}
 use Rattle.fs_ahead.specs.Steps.{brought, LineBrings, is_source_line, is_source_by}
@@ -87,12 +83,12 @@ stopped n bytes small some is =
 
 -- a line that is not UTF-8, and one that is too long
 not_text : (line : List ℕ) → ¬ (IsUtf8 line) → wanted_by line ≡ Refused
-not_text line bad = cond-false _ (wanted_unless (fault_of line) line) Refused (false_from_ne_true (is_utf8 line) (λ is. bad (IsUtf8-from_is_utf8 line is)))
+not_text line bad = cond-false _ (wanted_of (said_by line)) Refused (false_from_ne_true (is_utf8 line) (λ is. bad (IsUtf8-from_is_utf8 line is)))
 
 too_long : (line : List ℕ) → longest < length line → wanted_by line ≡ Refused
 too_long line long = by (is_utf8 line)
   where
-    by : (b : Bool) → cond b (wanted_unless (fault_of line) line) Refused ≡ Refused
+    by : (b : Bool) → cond b (wanted_of (said_by line)) Refused ≡ Refused
     by true = let more : nat_lt longest (length line) ≡ true = grind (arith, nat_tests) in rw more refl
     by false = refl
 
@@ -193,46 +189,18 @@ line_no_source number line (Ok x) is = ap is_source_line is ∙ no_source (wante
 below_greatest : (number : ℕ) (line : List ℕ) (w : LineWants) → number < greatest → wanted_by line ≡ w → wanted_at number line ≡ w
 below_greatest number line w small is = cond-true _ _ _ (less number small) ∙ is
 
--- what a line with no fault asks for
-abbrev said_by : List ℕ → LineWants
-said_by line = wanted_unless None line
-
--- a line with no fault asks for what it says
-with_no_fault : (line : List ℕ) → IsUtf8 line → fault_of line ≡ None → wanted_by line ≡ said_by line
-with_no_fault line utf8 none = cond-true _ _ _ (is_utf8-from_IsUtf8 line utf8) ∙ ap (λ (f : Option LineFault). wanted_unless f line) none
-
 -- a line that is read asks for what it says
-brings_said : (number : ℕ) (line shown : List ℕ) (l said : Line) (w : LineWants) → number < greatest → shown ≡ line → IsUtf8 shown
-    → l ≡ said → IsLine l shown → (IsLine said shown → said_by shown ≡ w) → brought w number ≡ brought (wanted_at number line) number
-brings_said number line shown l said w small same utf8 l_is is says =
-    let line_is : IsLine said shown = subst (λ (k : Line). IsLine k shown) l_is is in
-    ap (λ (v : LineWants). brought v number)
-    (sym (below_greatest number shown w small (with_no_fault shown utf8 (line_has_none said shown line_is) ∙ says line_is)))
+brings_said : (number : ℕ) (line shown : List ℕ) (l : Result Line LineFault) → number < greatest → shown ≡ line → IsUtf8 shown → said_by shown ≡ l
+    → brought (wanted_of l) number ≡ brought (wanted_at number line) number
+brings_said number line shown l small same utf8 is =
+    ap (λ (w : LineWants). brought w number)
+    (sym (below_greatest number shown (wanted_of l) small (cond-true _ _ _ (is_utf8-from_IsUtf8 shown utf8) ∙ ap wanted_of is)))
     ∙ ap (λ (t : List ℕ). brought (wanted_at number t) number) same
 
-pub skip_brings : (number : ℕ) (line shown : List ℕ) (l : Line) → number < greatest → shown ≡ line → IsUtf8 shown → l ≡ said.Skip → IsLine l shown
-    → None ≡ brought (wanted_at number line) number
-skip_brings number line shown l small same utf8 l_is is =
-    brings_said number line shown l said.Skip Nothing small same utf8 l_is is (λ skip. cond-true _ _ _ skip.1)
+pub line_brings_said : (number : ℕ) (line shown : List ℕ) (l said : Line) → number < greatest → shown ≡ line → IsUtf8 shown → l ≡ said
+    → said_by shown ≡ Ok l → brought (wanted_of (Ok said)) number ≡ brought (wanted_at number line) number
+line_brings_said number line shown l said small same utf8 l_is is = brings_said number line shown (Ok said) small same utf8 (is ∙ ap Ok l_is)
 
-pause_said : (line : List ℕ) → line ≡ codes "wait" → said_by line ≡ Pause
-pause_said line is = rw is refl
-
-pub pause_brings : (number : ℕ) (line shown : List ℕ) (l : Line) → number < greatest → shown ≡ line → IsUtf8 shown → l ≡ said.Wait → IsLine l shown
-    → Some (found.Asked asked.Wait) ≡ brought (wanted_at number line) number
-pause_brings number line shown l small same utf8 l_is is =
-    brings_said number line shown l said.Wait Pause small same utf8 l_is is (λ pause. pause_said shown pause)
-
-call_said : (lane : ℕ) (x : Call) (line : List ℕ) → IsLine (said.Call lane x) line → said_by line ≡ called lane x
-call_said lane (call.Stat path) line is =
-    let s = stat_parts lane path line is.1 in
-    cond-false _ _ _ s.no_skip
-    ∙ (cond-false _ _ _ s.no_wait
-    ∙ (ap (λ (w : List (List ℕ)). called_in (lane_in w) (call_in w)) s.words
-    ∙ ap (λ (o : Option ℕ). called_in o (call.Stat path)) is.1.named))
-call_said lane x line is = absurd is.1.call_is
-
-pub call_brings : (number lane : ℕ) (line shown : List ℕ) (l : Line) (x : Call) → number < greatest → shown ≡ line → IsUtf8 shown
-    → l ≡ said.Call lane x → IsLine l shown → brought (called lane x) number ≡ brought (wanted_at number line) number
-call_brings number lane line shown l x small same utf8 l_is is =
-    brings_said number line shown l (said.Call lane x) (called lane x) small same utf8 l_is is (call_said lane x shown)
+pub fault_brings : (number : ℕ) (line shown : List ℕ) (fault : LineFault) → number < greatest → shown ≡ line → IsUtf8 shown
+    → said_by shown ≡ Err fault → Some (found.Over (over.Line number)) ≡ brought (wanted_at number line) number
+fault_brings number line shown fault small same utf8 is = brings_said number line shown (Err fault) small same utf8 is

@@ -35,7 +35,7 @@ unfolding is_utf8 chars encode_utf8
 to_the_end = refl
 
 -- a carriage return is a byte as any other
-carriage_return : coming_of (codes "0 stat /\r\n") ≡ record { asked = []; over = over.Line 1 }
+carriage_return : coming_of (codes "0 stat /\r\n") ≡ record { asked = asked.Call (record { number = 1; lane = 0; call = call.Stat (47 ∷ 13 ∷ []) }) ∷ []; over = over.End }
 unfolding is_utf8 chars encode_utf8
 carriage_return = refl
 

@@ -1,13 +1,14 @@
 -- What a script asks for: calls and pauses, line by line, and why there are no more.
-use Rattle.std.specs.Prelude.{◌==◌, ◌+◌, ◌-◌, ◌^◌, ℕ, nat_lt, if◌then◌else◌, List, [], ◌∷◌, slice_index_or}
+use Rattle.std.specs.Prelude.{◌==◌, ◌+◌, ◌-◌, ◌^◌, ℕ, nat_lt, if◌then◌else◌, List, [], ◌∷◌, Result, Ok, Err}
 use Rattle.std.specs.Prelude.{Option, Some, None, option_map}
 use Rattle.std.specs.List.{onto_first}
 use Rattle.std.specs.Str.{is_utf8}
 use Rattle.fs_types.specs.declared.call.Call.{Call}
-use Rattle.fs_types.specs.declared.call.Call.TheVariants as call
 use Rattle.fs_lines.specs.Told.{Reading, ahead}
 use Rattle.fs_script.specs.declared.line.LineFault.{LineFault}
-use Rattle.fs_script.specs.Lines.{is_skip, is_wait, lane_of, words_of, fault_of}
+use Rattle.fs_script.specs.declared.line.Line.{Line}
+use Rattle.fs_script.specs.declared.line.Line.TheVariants as line
+use Rattle.fs_script.specs.Lines.{said_by}
 use Rattle.smb_link.specs.Calls.{is_there}
 use Rattle.fs_ahead.specs.declared.asked.Asked.{Asked}
 use Rattle.fs_ahead.specs.declared.asked.Asked.TheVariants as asked
@@ -30,30 +31,16 @@ pub data LineWants : Type 0 where
 abbrev pub called : ℕ → Call → LineWants
 called lane call = if is_there call then Called lane call else Refused
 
--- the call of a line: a `stat`, whose path is the word behind it
-abbrev pub call_in : List (List ℕ) → Call
-call_in words = call.Stat (slice_index_or words 2 [])
+-- a line that is outside the grammar is refused; an empty line and a comment ask for nothing, and the line `wait` for a pause
+abbrev pub wanted_of : Result Line LineFault → LineWants
+wanted_of (Err fault) = Refused
+wanted_of (Ok line.Skip) = Nothing
+wanted_of (Ok line.Wait) = Pause
+wanted_of (Ok (line.Call lane call)) = called lane call
 
--- the lane of a line is the one that its first word names
-abbrev pub lane_in : List (List ℕ) → Option ℕ
-lane_in words = lane_of (slice_index_or words 0 [])
-
--- a call in a lane, where there is such a lane
-abbrev pub called_in : Option ℕ → Call → LineWants
-called_in None call = Refused
-called_in (Some lane) call = called lane call
-
--- an empty line and a comment ask for nothing, and the line `wait` for a pause; any other has the lane and the words of a call
-abbrev pub wanted_unless : Option LineFault → List ℕ → LineWants
-wanted_unless (Some fault) line = Refused
-wanted_unless None line =
-    if is_skip line then Nothing
-    else if is_wait line then Pause
-    else called_in (lane_in (words_of line)) (call_in (words_of line))
-
--- a line that is not UTF-8, is too long or is outside the grammar is refused
+-- a line that is not UTF-8 is refused too
 abbrev pub wanted_by : List ℕ → LineWants
-wanted_by line = if is_utf8 line then wanted_unless (fault_of line) line else Refused
+wanted_by line = if is_utf8 line then wanted_of (said_by line) else Refused
 
 -- the greatest number of a line
 abbrev pub greatest : ℕ

@@ -1,17 +1,22 @@
 -- Texts and lines, computed.
-use Rattle.std.proofs.Common.{◌≡◌, ℕ, ◌++◌, List, [], ◌∷◌, Option, None, Some, codes, refl, arith, map, replicate}
+use Rattle.std.proofs.Common.{◌≡◌, ℕ, ◌++◌, List, [], ◌∷◌, None, Some, true, false, Result, Ok, Err, codes, refl, map}
 use Rattle.std.specs.Fmt.{decimal, digits}
-use Rattle.hex.specs.Hex.{encode_with}
+use Rattle.std.specs.Char.{encode_utf8}
+use Rattle.std.specs.Str.{is_utf8, chars}
+use Rattle.hex.specs.Hex.{encode_with, decode_pairs}
 use Rattle.fs_types.specs.declared.answer.Answer.{Answer}
 use Rattle.fs_types.specs.declared.answer.Answer.TheVariants as answer
-use Rattle.fs_types.specs.declared.call.Call.TheVariants.{Stat}
+use Rattle.fs_types.specs.declared.call.Call.{Call}
+use Rattle.fs_types.specs.declared.call.Call.TheVariants as call
+use Rattle.fs_types.specs.declared.call.Fd.{Fd}
 use Rattle.fs_types.specs.declared.names.Kind.{Kind}
 use Rattle.fs_types.specs.declared.names.Kind.TheVariants as kind
 use Rattle.fs_script.specs.declared.line.Line.TheVariants as line
 use Rattle.fs_script.specs.declared.line.LineFault.{LineFault}
-use Rattle.fs_script.specs.declared.line.LineFault.TheVariants.{Lane, Word, Path}
+use Rattle.fs_script.specs.declared.line.LineFault.TheVariants.{Lane, Word, Number, Path, Hex}
 use Rattle.fs_script.specs.Answers.{text_of, line_of}
-use Rattle.fs_script.specs.Lines.{IsLine, lane_names, lane_of, fault_of}
+use Rattle.fs_script.specs.Lines.{lane_names, lane_of, said_by}
+use Rattle.fs_script.specs.declared.line.Line.{Line}
 
 abbrev stat : Kind → ℕ → ℕ → ℕ → ℕ → Answer
 stat kind size mode links number =
@@ -94,79 +99,135 @@ each_name_of_a_lane : lane_names ≡ map decimal lanes
 unfolding digits
 each_name_of_a_lane = refl
 
-each_lane : map lane_of lane_names ≡ map (λ (lane : ℕ). Some lane) lanes
+each_lane : map lane_of lane_names ≡ map (λ (lane : ℕ). Ok lane) lanes
 each_lane = refl
 
--- the first fault of each line, and none where it is a call, a pause, empty or a comment
-abbrev lines : List (List ℕ × Option LineFault)
-lines =
-    (codes "", None)
-    ∷ (codes "#", None)
-    ∷ (codes "# 0 stat /a", None)
-    ∷ (codes "#wait", None)
-    ∷ (codes "wait", None)
-    ∷ (codes "0 stat /", None)
-    ∷ (codes "0 stat /a_B-9/z", None)
-    ∷ (codes "1 stat /a", None)
-    ∷ (codes "9 stat /a", None)
-    ∷ (codes "10 stat /a", None)
-    ∷ (codes "15 stat /", None)
-    ∷ (codes " #", Some Lane)
-    ∷ (codes " 0 stat /a", Some Lane)
-    ∷ (codes "00 stat /a", Some Lane)
-    ∷ (codes "01 stat /a", Some Lane)
-    ∷ (codes "+1 stat /a", Some Lane)
-    ∷ (codes "-1 stat /a", Some Lane)
-    ∷ (codes "1a stat /a", Some Lane)
-    ∷ (codes "16 stat /a", Some Lane)
-    ∷ (codes "100 stat /a", Some Lane)
-    ∷ (codes "18446744073709551616 stat /a", Some Lane)
-    ∷ (codes "stat /a", Some Lane)
-    ∷ (codes " wait", Some Lane)
-    ∷ (codes "wait ", Some Lane)
-    ∷ (codes "wait 1", Some Lane)
-    ∷ (codes "waits", Some Lane)
-    ∷ (codes "Wait", Some Lane)
-    ∷ (codes "16 open a", Some Lane)
-    ∷ (codes "0", Some Word)
-    ∷ (codes "15", Some Word)
-    ∷ (codes "0 ", Some Word)
-    ∷ (codes "0 wait", Some Word)
-    ∷ (codes "0 open /a", Some Word)
-    ∷ (codes "1 open a", Some Word)
-    ∷ (codes "0 stat", Some Word)
-    ∷ (codes "0 stat ", Some Word)
-    ∷ (codes "0  stat /a", Some Word)
-    ∷ (codes "0 stat  /a", Some Word)
-    ∷ (codes "0 stat /a ", Some Word)
-    ∷ (codes "0 stat /a /b", Some Word)
-    ∷ (codes "0 stat a", Some Path)
-    ∷ (codes "15 stat a", Some Path)
-    ∷ (codes "0 stat /a.b", Some Path)
-    ∷ (codes "0 stat /" ++ (0xC3 ∷ 0xA9 ∷ []), Some Path)
-    ∷ (codes "0 stat /a" ++ (9 ∷ []), Some Path)
-    ∷ (codes "0 stat a /b", Some Path)
-    ∷ (codes "0 stat /" ++ replicate 254 0x78, None)
-    ∷ (codes "0 stat /" ++ replicate 255 0x78, Some Path)
+abbrev in_lane : ℕ → Call → Result Line LineFault
+in_lane lane call = Ok (line.Call lane call)
+
+abbrev fd : ℕ → Fd
+fd n = record { 0 = n }
+
+abbrev bad : LineFault → Result Line LineFault
+bad fault = Err fault
+
+-- each call, and what its arguments may be
+abbrev calls : List (List ℕ × Result Line LineFault)
+calls =
+    (codes "0 open / r", in_lane 0 (call.Open (codes "/") 1))
+    ∷ (codes "15 open /a.b rwcxt", in_lane 15 (call.Open (codes "/a.b") 31))
+    ∷ (codes "1 open /%20%2F%25~ wc", in_lane 1 (call.Open (codes "/ /%~") 6))
+    ∷ (codes "1 open %2Fa rwt", in_lane 1 (call.Open (codes "/a") 19))
+    ∷ (codes "1 open /a wcx", in_lane 1 (call.Open (codes "/a") 14))
+    ∷ (codes "0 dup 4294967295", in_lane 0 (call.Dup (fd 4294967295)))
+    ∷ (codes "0 close 0", in_lane 0 (call.Close (fd 0)))
+    ∷ (codes "0 fsync 1", in_lane 0 (call.Fsync (fd 1)))
+    ∷ (codes "0 ftruncate 2 9223372036854775807", in_lane 0 (call.Ftruncate (fd 2) 9223372036854775807))
+    ∷ (codes "0 pread 3 10 20", in_lane 0 (call.Pread (fd 3) 10 20))
+    ∷ (codes "0 read 3 0", in_lane 0 (call.Read (fd 3) 0))
+    ∷ (codes "0 pwrite 3 7 00ff1a", in_lane 0 (call.Pwrite (fd 3) 7 (0 ∷ 255 ∷ 26 ∷ [])))
+    ∷ (codes "0 write 3 -", in_lane 0 (call.Write (fd 3) []))
+    ∷ (codes "0 append 3 68656c6c6f", in_lane 0 (call.Append (fd 3) (codes "hello")))
+    ∷ (codes "0 seek 3 5", in_lane 0 (call.Seek (fd 3) 5))
+    ∷ (codes "0 fstat 3", in_lane 0 (call.Fstat (fd 3)))
+    ∷ (codes "0 stat /" ++ (0xC3 ∷ 0xA9 ∷ 0x0D ∷ []), in_lane 0 (call.Stat (0x2F ∷ 0xC3 ∷ 0xA9 ∷ 0x0D ∷ [])))
+    ∷ (codes "0 lstat /%C3%A9", in_lane 0 (call.Lstat (0x2F ∷ 0xC3 ∷ 0xA9 ∷ [])))
+    ∷ (codes "0 unlink /a", in_lane 0 (call.Unlink (codes "/a")))
+    ∷ (codes "0 rmdir /a", in_lane 0 (call.Rmdir (codes "/a")))
+    ∷ (codes "0 mkdir /a", in_lane 0 (call.Mkdir (codes "/a")))
+    ∷ (codes "0 rename /a /b", in_lane 0 (call.Rename (codes "/a") (codes "/b")))
+    ∷ (codes "0 link /a /b", in_lane 0 (call.Link (codes "/a") (codes "/b")))
+    ∷ (codes "0 symlink ../x%0A /b", in_lane 0 (call.Symlink (codes "../x\n") (codes "/b")))
+    ∷ (codes "0 symlink  /b", in_lane 0 (call.Symlink [] (codes "/b")))
+    ∷ (codes "0 readlink /b", in_lane 0 (call.Readlink (codes "/b")))
+    ∷ (codes "0 list /", in_lane 0 (call.List (codes "/")))
+    ∷ (codes "0 chmod /a 0777", in_lane 0 (call.Chmod (codes "/a") 511))
+    ∷ (codes "0 chmod /a 0000", in_lane 0 (call.Chmod (codes "/a") 0))
+    ∷ (codes "0 lock 1 2 3 s", in_lane 0 (call.Lock (fd 1) 2 3 false))
+    ∷ (codes "0 lock 1 2 3 x", in_lane 0 (call.Lock (fd 1) 2 3 true))
+    ∷ (codes "0 unlock 1 2 3", in_lane 0 (call.Unlock (fd 1) 2 3))
+    ∷ (codes "0 statfs", in_lane 0 call.Statfs)
     ∷ []
 
-each_line : map (λ (row : List ℕ × Option LineFault). fault_of row.0) lines ≡ map (λ (row : List ℕ × Option LineFault). row.1) lines
-each_line = refl
+each_call : map (λ (row : List ℕ × Result Line LineFault). said_by row.0) calls ≡ map (λ (row : List ℕ × Result Line LineFault). row.1) calls
+unfolding is_utf8 chars encode_utf8 decode_pairs
+each_call = refl
 
-a_comment : IsLine line.Skip (codes "# 0 stat")
-a_comment = (omega arith, refl)
+-- a line that asks for nothing or for a pause, and the first fault of each other: the first wrong word from the left decides
+abbrev others : List (List ℕ × Result Line LineFault)
+others =
+    (codes "", Ok line.Skip)
+    ∷ (codes "#", Ok line.Skip)
+    ∷ (codes "# 0 stat /a", Ok line.Skip)
+    ∷ (codes "#wait", Ok line.Skip)
+    ∷ (codes "wait", Ok line.Wait)
+    ∷ (codes " #", bad Lane)
+    ∷ (codes " 0 stat /a", bad Lane)
+    ∷ (codes "00 stat /a", bad Lane)
+    ∷ (codes "+1 stat /a", bad Lane)
+    ∷ (codes "16 stat /a", bad Lane)
+    ∷ (codes "18446744073709551616 stat /a", bad Lane)
+    ∷ (codes "stat /a", bad Lane)
+    ∷ (codes "wait ", bad Lane)
+    ∷ (codes "Wait", bad Lane)
+    ∷ (codes "wait\r", bad Lane)
+    ∷ (codes "16 fly a", bad Lane)
+    ∷ (codes "0", bad Word)
+    ∷ (codes "0 ", bad Word)
+    ∷ (codes "0 wait", bad Word)
+    ∷ (codes "0 fly /a", bad Word)
+    ∷ (codes "0  stat /a", bad Word)
+    ∷ (codes "0 STAT /a", bad Word)
+    ∷ (codes "0 stat", bad Word)
+    ∷ (codes "0 stat /a ", bad Word)
+    ∷ (codes "0 stat /a /b", bad Word)
+    ∷ (codes "0 statfs /", bad Word)
+    ∷ (codes "0 statfs\r", bad Word)
+    ∷ (codes "0 open /a", bad Word)
+    ∷ (codes "0 open /a ", bad Word)
+    ∷ (codes "0 open /a wr", bad Word)
+    ∷ (codes "0 open /a c", bad Word)
+    ∷ (codes "0 open /a rx", bad Word)
+    ∷ (codes "0 open /a rtc", bad Word)
+    ∷ (codes "0 lock 0 1 2", bad Word)
+    ∷ (codes "0 lock 0 1 2 X", bad Word)
+    ∷ (codes "0 rename /a", bad Word)
+    ∷ (codes "0 symlink ", bad Word)
+    ∷ (codes "0 dup 4294967296", bad Number)
+    ∷ (codes "0 dup ", bad Number)
+    ∷ (codes "0 dup 00", bad Number)
+    ∷ (codes "0 dup 01", bad Number)
+    ∷ (codes "0 dup +1", bad Number)
+    ∷ (codes "0 dup -1", bad Number)
+    ∷ (codes "0 dup 1a", bad Number)
+    ∷ (codes "0 dup x 1", bad Number)
+    ∷ (codes "0 seek 0 9223372036854775808", bad Number)
+    ∷ (codes "0 seek 0 18446744073709551616", bad Number)
+    ∷ (codes "0 pread 0 x", bad Number)
+    ∷ (codes "0 chmod /a 777", bad Number)
+    ∷ (codes "0 chmod /a 1777", bad Number)
+    ∷ (codes "0 chmod /a 0778", bad Number)
+    ∷ (codes "0 chmod /a 00777", bad Number)
+    ∷ (codes "0 stat ", bad Path)
+    ∷ (codes "0 stat  /a", bad Path)
+    ∷ (codes "0 stat a", bad Path)
+    ∷ (codes "0 stat a /b", bad Path)
+    ∷ (codes "0 stat /%", bad Path)
+    ∷ (codes "0 stat /%2", bad Path)
+    ∷ (codes "0 stat /%2f", bad Path)
+    ∷ (codes "0 stat /%00", bad Path)
+    ∷ (codes "0 stat /%C3", bad Path)
+    ∷ (codes "0 symlink %ED%A0%80 /l", bad Path)
+    ∷ (codes "0 symlink /l ", bad Path)
+    ∷ (codes "0 rename a", bad Path)
+    ∷ (codes "0 chmod a 9", bad Path)
+    ∷ (codes "0 write 0 ", bad Hex)
+    ∷ (codes "0 write 0 6", bad Hex)
+    ∷ (codes "0 write 0 6A", bad Hex)
+    ∷ (codes "0 write 0 --", bad Hex)
+    ∷ (codes "0 pwrite 0 0 g0 x", bad Hex)
+    ∷ []
 
-an_empty_line : IsLine line.Skip []
-an_empty_line = (omega arith, refl)
-
-a_call : IsLine (line.Call 0 (Stat (codes "/a_B-9/z"))) (codes "0 stat /a_B-9/z")
-a_call = (omega arith, record { name = codes "0"; named = refl; words = codes "stat" ∷ codes "/a_B-9/z" ∷ []; call_is = (refl, refl); bytes_are = refl })
-
-the_root : IsLine (line.Call 0 (Stat (codes "/"))) (codes "0 stat /")
-the_root = (omega arith, record { name = codes "0"; named = refl; words = codes "stat" ∷ codes "/" ∷ []; call_is = (refl, refl); bytes_are = refl })
-
-the_last_lane : IsLine (line.Call 15 (Stat (codes "/a"))) (codes "15 stat /a")
-the_last_lane = (omega arith, record { name = codes "15"; named = refl; words = codes "stat" ∷ codes "/a" ∷ []; call_is = (refl, refl); bytes_are = refl })
-
-a_pause : IsLine line.Wait (codes "wait")
-a_pause = refl
+each_other : map (λ (row : List ℕ × Result Line LineFault). said_by row.0) others ≡ map (λ (row : List ℕ × Result Line LineFault). row.1) others
+unfolding is_utf8 chars encode_utf8 decode_pairs
+each_other = refl

@@ -1,3 +1,4 @@
-pub mod Words
-pub mod Faults
+pub mod Cuts
+pub mod Numbers
+pub mod Texts
 pub mod Examples

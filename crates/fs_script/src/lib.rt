@@ -2,9 +2,18 @@
 #![tactic(auto)]
 
 mod answer;
+mod argument;
+mod by_descriptor;
+mod by_path;
+mod call;
+mod call_name;
+mod choice;
+mod data;
 mod line;
 mod name;
-mod path;
+mod number;
+mod text;
+mod words;
 
 pub use answer::{answer_line, answer_text};
 pub use line::{Line, LineFault, read_line};

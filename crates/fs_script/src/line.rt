@@ -1,11 +1,14 @@
 //! A line of a script.
 
-ghost use Rattle.std.specs.Prelude.{◌≡◌, ◌⊎◌, ◌++◌, ◌∷◌, [], true, IfOk, IfErr, IfSome, MatchOption, MatchResult, codes};
-ghost use Rattle.fs_script.specs.Lines.{IsLine, is_skip, is_path, words_of, fault_of, words_fault, call_fault, stat_fault, lane_of, IsCallLine};
+ghost use Rattle.std.specs.Prelude.{◌≡◌, ◌≢◌, ◌⊎◌, true, IfOk, IfErr};
+ghost use Rattle.fs_script.specs.Words.{words_of, word_at, IsRead};
+ghost use Rattle.fs_script.specs.Calls.{name_of};
+ghost use Rattle.fs_script.specs.Lines.{is_skip, lane_of, said_by, has_call};
 
-use crate::path::is_path;
+use crate::call::call_of;
+use crate::call_name::{CallName, name_of};
+use crate::words::word_at;
 use fs_types::Call;
-use smb_base::{NoMemory, Text};
 use std::alloc::Global;
 use thiserror::Error;
 
@@ -29,16 +32,16 @@ pub enum LineFault {
     /// Its first word is no lane.
     #[error("no such lane")]
     Lane,
-    /// A word is missing or empty, names no call, or is one too many.
+    /// The second word names no call, or a word is missing, is one too many, or should be flags or the kind of a lock and is none.
     #[error("a wrong word")]
     Word,
-    /// A word should be a number, and is none. No line has this fault so far.
+    /// A word should be a number or a mode, and is none.
     #[error("no number")]
     Number,
-    /// A word should be a path, and is none.
+    /// A word should be a path or a target, and is none.
     #[error("no path")]
     Path,
-    /// A word should be bytes in hex, and is none. No line has this fault so far.
+    /// A word should be bytes in hex, and is none.
     #[error("no bytes in hex")]
     Hex,
     /// Memory ran out.
@@ -49,25 +52,36 @@ pub enum LineFault {
 /// The most bytes that a line has.
 const LONGEST: usize = 540_000;
 
-/// Reads a line of a script, given without its line feed. These lines come so far:
+/// Reads a line of a script, given without its line feed:
 ///
 /// - an empty line, or one that begins with `#`: [`Line::Skip`];
 /// - `wait`: [`Line::Wait`];
-/// - `LANE stat PATH`: [`Call::Stat`] in lane LANE, a number from 0 to 15 in decimal without needless zeros. Single spaces stand between
-///   the words. PATH begins with `/`, has at most 255 bytes, and has only ASCII letters, digits, `_`, `-` and `/`.
+/// - `LANE CALL ARGUMENTS`, with single spaces between the words: [`Line::Call`]. LANE is a number from 0 to 15. The calls and their
+///   arguments are
+///
+/// ```text
+/// open PATH FLAGS       pread FD OFF LEN     stat PATH      rename OLD NEW        lock FD OFF LEN s
+/// dup FD                read FD LEN          lstat PATH     link OLD NEW          lock FD OFF LEN x
+/// close FD              pwrite FD OFF HEX    unlink PATH    symlink TARGET PATH   unlock FD OFF LEN
+/// fsync FD              write FD HEX         rmdir PATH     readlink PATH         statfs
+/// ftruncate FD LEN      append FD HEX        mkdir PATH     list PATH
+/// seek FD OFF           fstat FD             chmod PATH MODE
+/// ```
+///
+/// Numbers are decimal without needless zeros: FD at most 4294967295, OFF and LEN at most 9223372036854775807. FLAGS is `r`, `w` or `rw`,
+/// then perhaps `c` or `cx`, then perhaps `t`. MODE is four octal digits, at most 0777. HEX is two lower-case hex digits for each byte,
+/// or `-` for no byte. In PATH, OLD, NEW and TARGET any byte may be written as `%` and two upper-case hex digits, a `%` itself has to
+/// be; they are UTF-8 and have no zero byte, and all but TARGET, which may be empty, begin with `/`.
 ///
 /// # Errors
 ///
-/// A line of more than 540,000 bytes is `TooLong`, whatever it says. Of any other the first word that is wrong decides: `Lane` where
-/// the first is no such number; `Word` where the second is not `stat`, where the third is missing or empty, and where there is a
-/// fourth; `Path` where the third is no such path. `Number` and `Hex` do not come so far. `NoMemory` comes only where the line is that
-/// of a call.
+/// A line of more than 540,000 bytes is `TooLong`, whatever it says. Of any other the first word from the left that is wrong decides,
+/// and a missing one stands behind the last: it is `Lane`, `Number`, `Path` or `Hex` where such a word was to stand there, and else
+/// `Word`. `NoMemory` comes only where the line has a lane and the name of a call.
 pub fn read_line(alloc: Global, line: &str) -> Result<Line, LineFault>
-    ensures line { IfOk result (λ l. IsLine l line.now) }
-    ensures only_line { (l : Line) → IsLine l line.now → (result ≡ Ok l) ⊎ (result ≡ Err LineFault.NoMemory) }
-    ensures skip { IsLine Line.Skip line.now → result ≡ Ok Line.Skip }
-    ensures fault { IfErr result (λ fault. (fault ≡ LineFault.NoMemory) ⊎ (fault_of line.now ≡ Some fault)) }
-    ensures only_fault { IfSome (fault_of line.now) (λ fault. result ≡ Err fault) }
+    ensures line { IfOk result (λ l. said_by line.now ≡ Ok l) }
+    ensures fault { IfErr result (λ fault. (fault ≡ LineFault.NoMemory) ⊎ (said_by line.now ≡ Err fault)) }
+    ensures no_memory { result ≡ Err LineFault.NoMemory → has_call line.now ≡ true }
 {
     if line.len() > LONGEST {
         return Err(LineFault::TooLong);
@@ -78,21 +92,10 @@ pub fn read_line(alloc: Global, line: &str) -> Result<Line, LineFault>
     if line == "wait" {
         return Ok(Line::Wait);
     }
-    match lane_and_path(line) {
-        Ok((lane, path)) => stat(alloc, lane, path),
-        Err(fault) => Err(fault),
-    }
-}
-
-// The line of a `stat` with this path, in this lane.
-fn stat(alloc: Global, lane: u8, path: &str) -> Result<Line, LineFault>
-    ensures line { IfOk result (λ l. l ≡ Line.Call lane (Call.Stat path.now)) }
-    ensures fault { IfErr result (λ fault. fault ≡ LineFault.NoMemory) }
-{
-    match Text::of(alloc, path) {
-        Ok(path) => Ok(Line::Call(lane, Call::Stat(path))),
-        Err(NoMemory) => Err(LineFault::NoMemory),
-    }
+    let lane = lane(line)?;
+    let name = name(line)?;
+    let call = call_of(alloc, name, line)?;
+    Ok(Line::Call(lane, call))
 }
 
 // Whether a line is empty or a comment.
@@ -105,104 +108,50 @@ fn is_skip(line: &str) -> bool
     }
 }
 
-// The lane and the path in the line of a `stat`.
-fn lane_and_path(line: &str) -> Result<(u8, &str), LineFault>
-    ensures { MatchResult result
-        (λ found. IsCallLine found.0 (Call.Stat found.1.now) line.now)
-        (λ fault. words_fault (words_of line.now) ≡ Some fault) }
+// The lane of a line.
+fn lane(line: &str) -> Result<u8, LineFault>
+    ensures lane { result ≡ word_at 0 lane_of (words_of line.now) }
+    ensures fault { IfErr result (λ fault. fault ≢ LineFault.NoMemory) }
 {
-    match cut(line) {
-        Some((word, call)) => match lane_of(word) {
-            Some(lane) => match path_of_call(call) {
-                Ok(path) => Ok((lane, path)),
-                Err(fault) => Err(fault),
-            },
-            None => Err(LineFault::Lane),
-        },
-        None => match lane_of(line) {
-            Some(_) => Err(LineFault::Word),
-            None => Err(LineFault::Lane),
-        },
-    }
-}
-
-// The path in what stands behind the lane.
-fn path_of_call(call: &str) -> Result<&str, LineFault>
-    ensures { MatchResult result
-        (λ path. (call.now ≡ codes "stat " ++ path.now) × (is_path path.now ≡ true))
-        (λ fault. call_fault (words_of call.now) ≡ Some fault) }
-{
-    match cut(call) {
-        Some((name, arguments)) => {
-            if name == "stat" {
-                path_of_stat(arguments)
-            } else {
-                Err(LineFault::Word)
-            }
-        }
+    match word_at(line, 0) {
+        Some(word) => lane_of(word),
         None => Err(LineFault::Word),
     }
 }
 
-// The path in what stands behind the name of the call.
-fn path_of_stat(arguments: &str) -> Result<&str, LineFault>
-    ensures { MatchResult result
-        (λ path. (arguments.now ≡ path.now) × (is_path path.now ≡ true))
-        (λ fault. stat_fault (words_of arguments.now) ≡ Some fault) }
+// The name of the call of a line.
+fn name(line: &str) -> Result<CallName, LineFault>
+    ensures name { result ≡ word_at 1 name_of (words_of line.now) }
+    ensures fault { IfErr result (λ fault. fault ≢ LineFault.NoMemory) }
 {
-    match cut(arguments) {
-        Some((path, _)) => {
-            if path.is_empty() {
-                Err(LineFault::Word)
-            } else if is_path(path) {
-                Err(LineFault::Word)
-            } else {
-                Err(LineFault::Path)
-            }
-        }
-        None => {
-            if arguments.is_empty() {
-                Err(LineFault::Word)
-            } else if is_path(arguments) {
-                Ok(arguments)
-            } else {
-                Err(LineFault::Path)
-            }
-        }
+    match word_at(line, 1) {
+        Some(word) => name_of(word),
+        None => Err(LineFault::Word),
     }
 }
 
 // The lane that a word names.
-fn lane_of(word: &str) -> Option<u8>
-    ensures { result ≡ lane_of word.now }
+fn lane_of(word: &str) -> Result<u8, LineFault>
+    ensures lane { result ≡ lane_of word.now }
+    ensures fault { IfErr result (λ fault. fault ≡ LineFault.Lane) }
 {
     match word {
-        "0" => Some(0),
-        "1" => Some(1),
-        "2" => Some(2),
-        "3" => Some(3),
-        "4" => Some(4),
-        "5" => Some(5),
-        "6" => Some(6),
-        "7" => Some(7),
-        "8" => Some(8),
-        "9" => Some(9),
-        "10" => Some(10),
-        "11" => Some(11),
-        "12" => Some(12),
-        "13" => Some(13),
-        "14" => Some(14),
-        "15" => Some(15),
-        _ => None,
+        "0" => Ok(0),
+        "1" => Ok(1),
+        "2" => Ok(2),
+        "3" => Ok(3),
+        "4" => Ok(4),
+        "5" => Ok(5),
+        "6" => Ok(6),
+        "7" => Ok(7),
+        "8" => Ok(8),
+        "9" => Ok(9),
+        "10" => Ok(10),
+        "11" => Ok(11),
+        "12" => Ok(12),
+        "13" => Ok(13),
+        "14" => Ok(14),
+        "15" => Ok(15),
+        _ => Err(LineFault::Lane),
     }
-}
-
-// The first word, and what stands behind its space; `None` where there is one word.
-fn cut(text: &str) -> Option<(&str, &str)>
-    ensures words { MatchOption result
-        (words_of text.now ≡ text.now ∷ [])
-        (λ parts. words_of text.now ≡ parts.0.now ∷ words_of parts.1.now) }
-    ensures text { IfSome result (λ parts. text.now ≡ parts.0.now ++ 0x20 ∷ parts.1.now) }
-{
-    text.split_once(' ')
 }

@@ -1,5 +1,0 @@
-use Rattle.fs_script.proofs.Words.{cut_words}
-use Rattle.fs_script.proofs.line.cut.Goals as goal
-
-pub returns-clause-words : goal.returns-clause-words
-returns-clause-words c = cut_words c.args.text.now c.split_once.result c.split_once.ensures.cases
